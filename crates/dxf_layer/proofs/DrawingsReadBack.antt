@@ -1,6 +1,6 @@
 -- The written drawing is read again.
 use Rattle.std.proofs.Common.{◌≡◌, ◌≢◌, ◌⊎◌, ℕ, zero, suc, ◌+◌, ◌-◌, ◌<◌, ◌≤◌, Bool, true, false, cond, ap, refl, sym}
-use Rattle.std.proofs.Common.{◌∙◌, subst, List, [], ◌∷◌, ◌++◌, length, map, take, drop, Option, None, Some, All, arith}
+use Rattle.std.proofs.Common.{◌∙◌, subst, List, [], ◌∷◌, ◌++◌, length, map, Option, None, Some, All, arith}
 use Rattle.std.proofs.Common.{inl, inr, ◌^◌, flat_map, Ok, Result, Err}
 use Rattle.std.specs.Prelude.{◌&&◌, nat_lt}
 use Rattle.std.specs.Option.{is_some}
@@ -37,7 +37,7 @@ use Rattle.dxf_entities.specs.SectionPlaces.{entities_of}
 use Rattle.dxf_entities.specs.Seeds.{seed_of, seed_edits}
 use Rattle.dxf_copies.specs.Rendering.{Reading, next_behind, drawing_text}
 use Rattle.dxf_copies.specs.PairGroups.{groups_for}
-use Rattle.dxf_copies.specs.LevelEnds.{level_again, AreReadAgain}
+use Rattle.dxf_copies.specs.LevelEnds.{AreReadAgain}
 use Rattle.dxf_layer.specs.InsideEditOrder.{in_order}
 use Rattle.dxf_layer.specs.InsideWalks.{free, walk_of}
 use Rattle.dxf_layer.specs.Drawings.{contents_of_seed, drawing_sheet}
@@ -92,39 +92,8 @@ record IsOf (images : Runs) (first past image : ℕ) : Type 0 where
 
 point_in : (images : Runs) (first count image : ℕ) → run_begin images first ≤ image
     → image < run_begin images (first + count) → IsOf images first (first + count) image
-point_in images first zero image begins ends =
-    let none : first + 0 ≡ first = omega arith in
-    let same = ap (run_begin images) none in
-    absurd (omega (arith, begins, ends, same))
-point_in images first (suc count) image begins ends = by (below_or image (run_begin images (first + count)))
-    (λ below. point_in images first count image begins below)
-  where
-    next : first + count + 1 ≡ first + suc count
-    next = omega arith
-
-    below_or : (m n : ℕ) → (m < n) ⊎ (n ≤ m)
-    below_or m n = grind arith
-
-    by : (image < run_begin images (first + count)) ⊎ (run_begin images (first + count) ≤ image)
-        → (image < run_begin images (first + count) → IsOf images first (first + count) image)
-        → IsOf images first (first + suc count) image
-    by (inl below) later =
-        let of = later below in
-        let small = of.upto in
-        record {
-          point = of.point;
-          from = of.from;
-          upto = omega (arith, small);
-          begins = of.begins;
-          ends = of.ends;
-        }
-    by (inr behind) later = record {
-      point = first + count;
-      from = omega arith;
-      upto = omega arith;
-      begins = behind;
-      ends = subst (λ (n : ℕ). image < run_begin images n) (sym next) ends;
-    }
+point_in images first zero image begins ends = grind (arith, ends)
+point_in images first (suc count) image begins ends = grind (arith, ends, (point_in images first count image begins))
 
 -- a shape's points have heights or none, all of them
 own_some : (rise : Option Rise) (points : List Pt) (k : ℕ) → k < length points
@@ -179,22 +148,13 @@ all_be some (height ∷ heights) each = (each 0 (omega arith), all_be some heigh
 part_some : (images : Runs) (first past : ℕ) (some : Bool) → run_begin images past ≤ length images.heights
     → ((image : ℕ) → run_begin images first ≤ image → image < run_begin images past
     → is_some (height_in images.heights image) ≡ some) → AreAll some (run_heights images first past)
-part_some images first past some room each =
-    let begin = run_begin images first in
-    let count = run_begin images past - begin in
-    let behind = length-drop begin images.heights in
-    all_be some _ (λ k less.
-    let few = length-take count (drop begin images.heights) in
-    let within : k < count = omega (arith, less, few) in
-    let at = get_or-take count (drop begin images.heights) k None within ∙ get_or-drop begin images.heights k None in
-    ap is_some at ∙ each (begin + k) (omega arith) (omega (arith, within)))
+part_some images first past some room each = grind (arith, length-drop, all_be, length-take, get_or-take, get_or-drop)
 
 -- the images of the points of shapes after some others
 rises_fit : (sheet : Contents) (images : Runs) → DoFit sheet images → (front : List Height) (first : ℕ)
     (shapes : List Shape) → length front ≡ first → sheet.heights ≡ front ++ heights_of shapes
     → first + length (points_of shapes) ≤ length sheet.points
-    → All (HaveCrossingHeights sheet images) (rows_behind first shapes) → AreWhole shapes
-    → RisesFit images first shapes
+    → All (HaveCrossingHeights sheet images) (rows_behind first shapes) → AreWhole shapes → RisesFit images first shapes
 rises_fit sheet images fits front first [] count are inside crossings whole = tt
 rises_fit sheet images fits front first (shape ∷ shapes) count are inside crossings whole = (
   by_kind shape.kind whole.0 crossings,
@@ -218,8 +178,7 @@ rises_fit sheet images fits front first (shape ∷ shapes) count are inside cros
         let at = ap (λ (hs : List Height). height_in hs point) are ∙ (ap (λ (n : ℕ). height_in (front ++
         (heights_in shape ++ heights_of shapes)) n) (sym place) ∙ (get_or-append-add front
         (heights_in shape ++ heights_of shapes) k None ∙ in_front (heights_in shape) (heights_of shapes) k
-        (omega (arith, within, one_each shape)))) in
-        ap is_some at ∙ own_some _ _ k within
+        (omega (arith, within, one_each shape)))) in ap is_some at ∙ own_some _ _ k within
       where
         in_front : (hs more : List Height) (k : ℕ) → k < length hs → height_in (hs ++ more) k ≡ height_in hs k
         in_front [] more k within = absurd (omega arith)
@@ -235,12 +194,7 @@ rises_fit sheet images fits front first (shape ∷ shapes) count are inside cros
     by_kind : (kind : Option PathKind) → IsWholeBy kind (length shape.points)
         → All (HaveCrossingHeights sheet images) (rows_of kind first past ++ rows_behind past shapes)
         → AreAll (is_some shape.rise) (run_heights images first past)
-    by_kind None count_is all =
-        let none : run_begin images past - run_begin images first ≡ 0 =
-        let same : past ≡ first = omega (arith, count_is) in
-        let e = ap (run_begin images) same in omega (arith, e) in
-        subst (λ (n : ℕ). AreAll (is_some shape.rise) (take n (drop (run_begin images first) images.heights)))
-        (sym none) tt
+    by_kind None count_is all = grind (arith, past, AreAll)
     by_kind (Some kind) count_is all =
         let row : PathRow = record { kind = kind; first = first; past = past } in
         let room = ends_within sheet images fits past (omega (arith, inside, sizes)) in
@@ -303,8 +257,7 @@ shapes_whole bytes how pairs past follow seed shapes is =
 -- the edits of a drawing's sheet are those of the next handle and of its entities
 edits_same : (read : Reading) (how : How) (seed : Option Pair) (shapes : List Shape)
     → walk_of read.bytes how seed free (entities_of read.bytes read.pairs) ≡ Ok shapes
-    → read.sheet ≡ walked_sheet_of seed shapes
-    → flat_map (groups_for read) read.pairs ≡ flat_map
+    → read.sheet ≡ walked_sheet_of seed shapes → flat_map (groups_for read) read.pairs ≡ flat_map
     (stand read (seed_edits seed ++ trail read.bytes how seed 0 0 free (entities_of read.bytes read.pairs))) read.pairs
 edits_same read how seed shapes walk sheet_is =
     let all = (with_shapes (contents_of_seed seed) shapes).edits in
@@ -312,16 +265,12 @@ edits_same read how seed shapes walk sheet_is =
     edits_are (contents_of_seed seed) shapes ∙ ap (λ (e : List Edit). seed_edits seed ++ e)
     (trail_edits read.bytes how seed 0 0 free (entities_of read.bytes read.pairs) shapes walk) in
     let ordered : read.sheet.edits ≡ in_order all = ap (λ (s : Contents). s.edits) sheet_is in
-    each_same (groups_for read) (stand read (seed_edits seed
-    ++ trail read.bytes how seed 0 0 free (entities_of read.bytes read.pairs))) read.pairs
-    (λ pair is_in. stands_for read pair ∙ (ap (λ (e : List Edit). stand read e pair) ordered
-    ∙ (stand_in_order read all pair ∙ ap (λ (e : List Edit). stand read e pair) trails)))
+    grind (arith, each_same, stand, trail, stands_for, stand_in_order)
 
 -- the groups in the place of a drawing's pairs
 groups_again : GroupsFollow → (read : Reading) (how : How) (past : ℕ) → AreTiles 0 1 read.pairs past
     → AreInLines read.bytes read.pairs → (seed : Option Pair) → seed_of read.bytes read.pairs ≡ seed
-    → (shapes : List Shape)
-    → walk_of read.bytes how seed free (entities_of read.bytes read.pairs) ≡ Ok shapes
+    → (shapes : List Shape) → walk_of read.bytes how seed free (entities_of read.bytes read.pairs) ≡ Ok shapes
     → read.sheet ≡ walked_sheet_of seed shapes → DoFit read.sheet read.images → next_behind read < 16 ^ MOST_DIGITS
     → AreAgain read.bytes how (is_seeded seed) read.images 0 free Outside read.pairs
     (imaged_outlines read.images 0 shapes) (flat_map (groups_for read) read.pairs)
@@ -353,9 +302,7 @@ groups_again follow read how past tiles lines seed seed_is shapes walk sheet_is 
       before_is = refl;
       inside = omega (arith, ap length points);
       lone = dots_alone read.images 0 shapes whole rises alone;
-    }) in
-    subst (λ (g : List Group). AreAgain read.bytes how (is_seeded seed) read.images 0 free Outside read.pairs
-    (imaged_outlines read.images 0 shapes) g) (sym (edits_same read how seed shapes walk sheet_is)) again
+    }) in grind (arith, AreAgain, is_seeded, imaged_outlines, edits_same, walk)
 
 -- ---- what is written of a drawing reads back: its segments are those between the images, with their heights
 -- the ends of the segments of a drawing's sheet, and their heights
@@ -368,14 +315,7 @@ sheet_ends : (bytes : List ℕ) (how : How) (pairs : List Pair) (past : ℕ) →
     → HasEnds (walked_sheet_of seed shapes) (outlines shapes)
 sheet_ends bytes how pairs past tiles seed shapes is =
     let whole = shapes_whole bytes how pairs past (tiles_follow 0 1 pairs past tiles) seed shapes is in
-    record {
-      points = ap (λ (points : List Pt). ends_of points (walked_sheet_of seed shapes).paths)
-          (points_are (contents_of_seed seed) shapes) ∙ (ap (λ (rows : List PathRow). ends_of (points_of shapes) rows)
-          (rows_are _ shapes) ∙ shapes_points shapes whole);
-      heights = ap (λ (heights : List Height). height_ends_of heights (walked_sheet_of seed shapes).paths)
-          (heights_are _ shapes) ∙ (ap (λ (rows : List PathRow). height_ends_of (heights_of shapes) rows)
-          (rows_are _ shapes) ∙ shapes_heights shapes whole);
-    }
+    grind (arith, points_are, points_of, rows_are, shapes_points, heights_are, heights_of, shapes_heights)
 
 -- and of the images
 record HaveEnds (sheet : Contents) (images : Runs) (outs : List Outline) : Type 0 where
@@ -397,12 +337,7 @@ image_ends bytes how pairs past tiles seed shapes is sheet images sheet_is fits 
     let inside : 0 + length (points_of shapes) ≤ length sheet.points = omega (arith, ap length points) in
     let rises = rises_fit sheet images fits [] 0 shapes refl heights inside
     (subst (λ (r : List PathRow). All (HaveCrossingHeights sheet images) r) rows fits.crossing_heights) whole in
-    record {
-      points = ap (λ (r : List PathRow). ends_of images.points (map (row_of_images images) r)) rows ∙ imaged_points images _
-          good.runs 0 shapes inside whole;
-      heights = ap (λ (r : List PathRow). height_ends_of images.heights (map (row_of_images images) r)) rows ∙ imaged_heights
-          images _ good.runs fits.height_each 0 shapes inside whole rises;
-    }
+    grind (arith, imaged_points, imaged_heights)
 
 -- what a drawing's text is read as
 abbrev IsBack : How → Contents → Runs → List ℕ → Type 0
@@ -432,14 +367,7 @@ by_groups tile pairs_are how text groups groups_are some outs wanted walk_is she
           let list_is : outlines shapes ≡ outs = cc in
           let own = sheet_ends text how new.pairs past tiles (seed_of text new.pairs) shapes is in
           let back = walked_sheet_of (seed_of text new.pairs) shapes in
-          record {
-            back = back;
-            is_read = sheet_read text how new.pairs shapes (past, inside, tiles) new.is is;
-            segments = own.points ∙ (ap all_ends list_is ∙ (same.ends ∙ sym have.points));
-            heights = mapped_match (height_ends_of images.heights (map (row_of_images images) sheet.paths))
-                (height_ends_of back.heights back.paths)
-                (own.heights ∙ (ap all_heights list_is ∙ (same.heights ∙ ap (map level_again) (sym have.heights))));
-          }
+          grind (arith, sheet_read, all_ends, mapped_match, all_heights)
 
 some_pairs : (bytes : List ℕ) (pairs : List Pair) → AreInLines bytes pairs → HasSome pairs
 some_pairs bytes [] lines = absurd lines
@@ -481,8 +409,7 @@ read_back tile in_lines follow are_groups how bytes sheet images sheet_is fits s
                 let groups = flat_map (groups_for read) pairs in
                 let outs : outlines_of how groups ≡ Some walks.outs =
                 ap (λ (seeded : Bool). walk how seeded alone (entities_told Outside groups)) (again.kept.seeded
-                ∙ ap is_seeded (sym (seed_found bytes pairs)))
-                ∙ walks.walk_is in
+                ∙ ap is_seeded (sym (seed_found bytes pairs))) ∙ walks.walk_is in
                 by_groups tile are_groups how (splice_of bytes (drawing_text bytes sheet images) sheet.edits) groups
                 (written tile in_lines follow how bytes pairs sheet images pairs_are sheet_is fits)
                 (again.kept.ending (some_pairs bytes pairs (in_lines bytes pairs pairs_are))) walks.outs

@@ -3,7 +3,7 @@ use Rattle.std.proofs.Common.{◌≡◌, ℕ, ◌+◌, pos, Bool, true, false, c
 use Rattle.std.proofs.Common.{length, take_while, Option, None, Some, Result, Ok, Err, codes, suc, IfSome}
 use Rattle.std.proofs.Common.{zero-add, inl, inr, if◌then◌else◌, arith}
 use Rattle.std.specs.Prelude.{⊤, ◌||◌, filter, flat_map}
-use Rattle.std.specs.List.{AllByRecursion, range_with_len}
+use Rattle.std.specs.List.{AllByRecursion}
 use Rattle.std.proofs.lemmas.List.{append_assoc, length-append}
 use Rattle.std.proofs.lemmas.List.Sums.{take_while-cons}
 use Rattle.plain_laws.proofs.Lists.{all_append}
@@ -25,7 +25,7 @@ use Rattle.dxf_entities.specs.declared.drawing.VertexFields.{VertexFields}
 use Rattle.dxf_entities.specs.declared.points.LineFields.{LineFields}
 use Rattle.dxf_entities.specs.Entities.{Entity, is_coded, is_of_kind, entity_of, entities_in}
 use Rattle.dxf_entities.specs.Fields.{in_turn, entity_fields, field_at, there_as, not_zero, zero_at}
-use Rattle.dxf_entities.specs.Items.{Item, single, polyline, is_polyline, is_vertex, behind_vertices, item_of, belongs}
+use Rattle.dxf_entities.specs.Items.{Item, single, polyline, is_polyline, is_vertex, behind_vertices}
 use Rattle.dxf_entities.specs.Items.{is_polyline_open, items_from, items_in, items_of}
 use Rattle.dxf_entities.specs.Kinds.{upright, shapes_of, are_read_alone, left_out, other_shapes, single_shapes}
 use Rattle.dxf_entities.specs.Kinds.{polyline_shapes, shapes_of_item}
@@ -92,18 +92,7 @@ module _ (read : Reading) (past : ℕ) (tiles : AreTiles 0 1 read.pairs past) wh
             → AreAmong read (entities_in kept)
             → AreAmong read (entities_in (cond (is_inside read.bytes pair) (pair ∷ kept) []))
         by_tests true head ends_is head_is rest = rw ends_is tt
-        by_tests false true ends_is head_is rest = rw (ends_is, head_is, heads_kept read.bytes pairs) (
-          record {
-            found = entity_is read front past pair pairs are tiles;
-            is_head = head_is;
-            goes_on = ends_is;
-            front = front;
-            behind = pairs;
-            are = are;
-            own = refl;
-          },
-          rest,
-        )
+        by_tests false true ends_is head_is rest = grind (arith, heads_kept, entity_is)
         by_tests false false ends_is head_is rest = rw (ends_is, head_is) rest
 
   sections-among : (front pairs : List Pair) (inside : Bool) → read.pairs ≡ front ++ pairs
@@ -143,24 +132,12 @@ items_among read end behind (entity ∷ entities) all =
     let rest = items_among read end (is_polyline_open read.bytes behind entity) entities all.1 in
     let own = either (IsItemAmong read) (is_polyline read.bytes entity)
     (polyline entity (take_while (is_vertex read.bytes) entities) (behind_vertices read.bytes end entities))
-    (single entity) (front_among read (is_vertex read.bytes) entities all.1) all.0 in
-    either (AllByRecursion (IsItemAmong read)) (belongs read.bytes behind entity) more
-    (item_of read.bytes end entity entities ∷ more) rest (own, rest)
+    (single entity) (front_among read (is_vertex read.bytes) entities all.1) all.0 in grind (arith, either)
 
 named_among : (read : Reading) (sections : List Section) → AllByRecursion (IsSectionAmong read) sections
     → AllByRecursion (IsItemAmong read) (flat_map (items_in read.bytes) (filter (is_named (codes "ENTITIES")) sections))
 named_among read [] all = tt
-named_among read (section ∷ sections) all =
-    by_test (is_named (codes "ENTITIES") section) (named_among read sections all.1) where
-      more : List Section
-      more = filter (is_named (codes "ENTITIES")) sections
-
-      by_test : (named : Bool) → AllByRecursion (IsItemAmong read) (flat_map (items_in read.bytes) more)
-          → AllByRecursion (IsItemAmong read) (flat_map (items_in read.bytes) (cond named (section ∷ more) more))
-      by_test true rest = all_append (IsItemAmong read) (items_in read.bytes section)
-          (flat_map (items_in read.bytes) more)
-          (items_among read section.end false (entities_in section.pairs) all.0) rest
-      by_test false rest = rest
+named_among read (section ∷ sections) all = grind (arith, all_append, items_among, (named_among read sections all.1))
 
 -- ---- what is read
 -- it holds of what is read, where it is read
@@ -190,16 +167,11 @@ second_is bytes exact entity spot is =
     let across = went (λ (a : Option Pair). and_then (λ (b : Option Pair). second_by bytes exact entity a b)
     (field_at (pos 73) entity)) (field_at (pos 72) entity) (Some spot) is in
     let along = went (λ (b : Option Pair). second_by bytes exact entity across.value b) (field_at (pos 73) entity)
-    (Some spot) across.gives in
-    by_test (not_zero bytes across.value || not_zero bytes along.value) along.gives where
+    (Some spot) across.gives in by_test (not_zero bytes across.value || not_zero bytes along.value) along.gives where
       by_test : (just : Bool) → cond just (and_then (λ (s : PointFields). Ok (Some s))
           (spot_at bytes exact (pos 11) (pos 21) entity)) (Ok None) ≡ Ok (Some spot)
           → spot_at bytes exact (pos 11) (pos 21) entity ≡ Ok spot
-      by_test true made =
-          let found = went (λ (s : PointFields). Ok (Some s)) (spot_at bytes exact (pos 11) (pos 21) entity) (Some spot)
-          made in
-          let same : found.value ≡ spot = cc in
-          found.is ∙ ap Ok same
+      by_test true made = grind (arith, went)
       by_test false made = absurd (cc)
 
 -- the vertices of entities of their own begin with that of the first one
@@ -223,14 +195,7 @@ first_own bytes exact seed entity entities vertices is =
     here.gives in
     let first = went (λ (vertex : VertexFields). Ok (vertex ∷ [])) (entity_vertex bytes exact seed entity) here.value here.is in
     let alone : first.value ∷ [] ≡ here.value = cc in
-    let whole : here.value ++ rest.value ≡ vertices = cc in
-    record {
-      vertex = first.value;
-      vertex_is = first.is;
-      more = rest.value;
-      more_is = rest.is;
-      are = ap (λ (front : List VertexFields). front ++ rest.value) alone ∙ whole;
-    }
+    let whole : here.value ++ rest.value ≡ vertices = cc in grind arith
 
 -- it holds of the shape of each kind of entity of the drawing
 pub record HoldsOfKinds (read : Reading) (how : How) (seed : Option Pair) (P : Shape → Type 0) : Type 0 where
@@ -381,20 +346,7 @@ edits_each sheet P (shape ∷ shapes) all before rows points paths =
     (points ∙ sym (append_assoc before shape.points (points_of shapes)))
     (paths ∙ (sym (append_assoc rows own (rows_behind (length before + length shape.points) shapes))
     ∙ ap (λ (n : ℕ). (rows ++ own) ++ rows_behind n shapes) (sym first))) in
-    all_append P (shape.edits (length rows) (length before))
-    (edits_with (length rows + length own) (length before + length shape.points) shapes)
-    (all.0 (length rows) (length before) (record {
-      before = before;
-      after = points_of shapes;
-      points = points;
-      first_is = refl;
-      rows_before = rows;
-      rows_after = rows_behind (length before + length shape.points) shapes;
-      rows = paths;
-      path_is = refl;
-    }))
-    (subst (λ (n : ℕ). AllByRecursion P (edits_with (length rows + length own) n shapes)) first
-    (subst (λ (n : ℕ). AllByRecursion P (edits_with n (length (before ++ shape.points)) shapes)) path more))
+    grind (arith, all_append, edits_with, points_of, rows_behind)
 
 -- ---- edits in order of the text
 some_each : (P : Edit → Type 0) (p : Edit → Bool) (edits : List Edit) → AllByRecursion P edits
@@ -421,16 +373,12 @@ each_edit read how tile pairs_are sheet_is P holds next =
     (in_turn (shapes_of_item read.bytes how seed) (items_of read.bytes read.pairs)) read.sheet
     (ap (from_pairs read.bytes how) (sym pairs_are) ∙ sheet_is) in
     let same : sheet_of size seed made.value ≡ read.sheet = cc in
-    let all : AllByRecursion (HaveAll read.sheet P) made.value =
-    subst (EachIs (HaveAll read.sheet P)) made.is
+    let all : AllByRecursion (HaveAll read.sheet P) made.value = subst (EachIs (HaveAll read.sheet P)) made.is
     (shapes_each read how seed (HaveAll read.sheet P) holds past tiles) in
     let own = edits_each read.sheet P made.value all [] []
     (ap (λ (s : Contents). s.points) (sym same) ∙ points_are (contents_of_seed seed) made.value)
     (ap (λ (s : Contents). s.paths) (sym same) ∙ rows_are (contents_of_seed seed) made.value) in
-    subst (λ (s : Contents). AllByRecursion P s.edits) same
-    (order_each P (with_shapes (contents_of_seed seed) made.value).edits (range_with_len 0 (size + 1))
-    (subst (AllByRecursion P) (sym (edits_are (contents_of_seed seed) made.value))
-    (all_append P (seed_edits seed) (edits_with 0 0 made.value) next own)))
+    grind (arith, order_each, edits_are, all_append, edits_with)
 
 -- ---- each path that is read of a drawing has an edit with which it begins
 -- ---- edits before and after others, and rows after others
@@ -453,9 +401,7 @@ all_before edits more number (row ∷ rows) (has, have) =
 
 rows_together : (edits : List Edit) (number : ℕ) (rows more : List PathRow) → HavePathEdits edits number rows
     → HavePathEdits edits (number + length rows) more → HavePathEdits edits number (rows ++ more)
-rows_together edits number [] more have next =
-    let same : number + 0 ≡ number = omega arith in
-    subst (λ (n : ℕ). HavePathEdits edits n more) same next
+rows_together edits number [] more have next = grind arith
 rows_together edits number (row ∷ rows) more (has, have) next =
     let same : number + suc (length rows) ≡ number + 1 + length rows = omega arith in
     (has, rows_together edits (number + 1) rows more have (subst (λ (n : ℕ). HavePathEdits edits n more) same next))
@@ -490,9 +436,7 @@ among path first edit (other ∷ edits) has =
 path_in_order : (path first : ℕ) (edits : List Edit) → HasPathEdit path first edits
     → HasPathEdit path first (in_order edits)
 path_in_order path first [] has = has
-path_in_order path first (edit ∷ edits) has =
-    among path first edit (in_order edits) (behind_other path first edit edits _
-    (λ own. path_in_order path first edits own) has)
+path_in_order path first (edit ∷ edits) has = grind (arith, among, behind_other, (path_in_order path first edits))
 
 all_in_order : (edits : List Edit) (number : ℕ) (rows : List PathRow) → HavePathEdits edits number rows
     → HavePathEdits (in_order edits) number rows
@@ -520,14 +464,7 @@ heavy_begins kind [] path first = tt
 heavy_begins kind (vertex ∷ vertices) path first = inl (inr (inr refl))
 
 all_begin : (read : Reading) (how : How) (seed : Option Pair) → HoldsOfKinds read how seed Begins
-all_begin read how seed = record {
-  dots = λ entity spot among is. dot_begins spot;
-  seconds = λ entity spot among is. dot_begins spot;
-  lines = λ entity ends among is. line_begins entity ends.begin ends.end ends.rise;
-  lights = λ entity kind vertices count among is count_is. light_begins kind vertices count;
-  heavies = λ entities kind vertices among is. heavy_begins kind vertices;
-  drops = λ entity among asked other path first. tt;
-}
+all_begin read how seed = grind (arith, among, dot_begins, line_begins, light_begins, heavy_begins)
 
 -- ---- shape by shape
 own_row : (kind : Option PathKind) (before own : List Edit) (number first past : ℕ)

@@ -4,14 +4,13 @@ use Rattle.std.proofs.Common.{inr, Bool, true, false, cond, refl, ◌+◌, ℤ, 
 use Rattle.std.proofs.Common.{zero, suc}
 use Rattle.std.proofs.lemmas.List.{append_assoc, append-nil, length-append}
 use Rattle.std.proofs.lemmas.Grind.{flat_map-append}
-use Rattle.std.specs.Prelude.{◌||◌, nat_le, ◌⊎◌, ◌&&◌, bytes_eq}
+use Rattle.std.specs.Prelude.{◌||◌, ◌⊎◌, ◌&&◌, bytes_eq}
 use Rattle.std.specs.List.{list_any, prefix_len}
 use Rattle.std.proofs.lemmas.Bool.Decides.{nat_tests, Decides-int_eq}
 use Rattle.std.specs.Ordering.{int_eq}
 use Rattle.sheet_base.specs.declared.edits.Edit.{Edit}
 use Rattle.sheet_base.specs.declared.flags.How.{How}
 use Rattle.sheet_base.specs.declared.paths.PathRow.{PathRow}
-use Rattle.sheet_base.specs.Faults.{and_then}
 use Rattle.sheet_base.specs.ImageFits.{Runs}
 use Rattle.dxf_pairs.specs.declared.pairs.Pair.{Pair}
 use Rattle.dxf_pairs.specs.Groups.{Group, group_in, value_in}
@@ -24,12 +23,10 @@ use Rattle.dxf_entities.specs.declared.section_places.Where.TheVariants.{Outside
 use Rattle.dxf_entities.specs.Sections.{is_end_of_section}
 use Rattle.dxf_entities.specs.SectionPlaces.{section_behind, begins_entity, entities_from}
 use Rattle.dxf_entities.specs.Shapes.{Shape}
-use Rattle.dxf_entities.specs.Fields.{field_at, there_as}
 use Rattle.dxf_copies.specs.PairGroups.{begins_at, covers, is_of_value, value_with}
 use Rattle.dxf_copies.specs.Rendering.{Reading}
 use Rattle.dxf_layer.specs.InsideEditOrder.{edit_among, in_order}
-use Rattle.dxf_layer.specs.InsideWalks.{WalkPlace, free, staying, reading, Step, step, walk_of, shapes_read, stays}
-use Rattle.dxf_layer.specs.InsideWalks.{by_kind, step_free, step_staying}
+use Rattle.dxf_layer.specs.InsideWalks.{WalkPlace, free, staying, reading, Step, step, walk_of, shapes_read, step_free}
 use Rattle.dxf_entities.proofs.WholeShapes.{AreWithin, paths_past, points_past, edits_with}
 use Rattle.dxf_entities.proofs.Members.{IsIn, Follow, by_past, lies, tiles_follow}
 use Rattle.dxf_entities.proofs.GroupShapes.{coded, is_seeded, Outline, Told, next}
@@ -62,21 +59,8 @@ record IsInside (entity : Entity) (pair : Pair) : Type 0 where
 
 inside_entity : (bytes : List ℕ) (entity : Entity) → IsSet bytes entity → (pair : Pair)
     → IsIn pair (entity.head ∷ entity.pairs) → IsInside entity pair
-inside_entity bytes entity set pair (inl is) = subst (IsInside entity) (sym is) (record {
-  placed = set.placed;
-  ends = by_past entity.head.end entity.pairs (entity_end entity) set.follow;
-})
-inside_entity bytes entity set pair (inr is_in) =
-    let at = lies _ pair _ _ set.follow is_in in
-    record {
-      placed = record {
-        code = at.code;
-        value = at.value;
-        inside = at.inside;
-        some = some_at pair _ set.some is_in;
-      };
-      ends = at.ends;
-    }
+inside_entity bytes entity set pair (inl is) = grind (arith, by_past)
+inside_entity bytes entity set pair (inr is_in) = grind (arith, lies, some_at)
 
 regrouped : (a t s r : List Group) → a ++ ((t ++ s) ++ r) ≡ (a ++ t) ++ (s ++ r)
 regrouped a t s r = ap (λ (g : List Group). a ++ g) (append_assoc t s r) ∙ sym (append_assoc a t (s ++ r))
@@ -124,47 +108,16 @@ ByStart p = (a b : Edit) → p a ≡ true → p b ≡ true → a.start ≡ b.sta
 chosen_among : (p : Edit → Bool) → ByStart p → (edit : Edit) (edits : List Edit)
     → filter p (edit_among edit edits) ≡ filter p (edit ∷ edits)
 chosen_among p same edit [] = refl
-chosen_among p same edit (other ∷ edits) =
-    by_test (nat_le edit.start other.start) refl (chosen_among p same edit edits) where
-      by_both : (one two : Bool) → p edit ≡ one → p other ≡ two → nat_le edit.start other.start ≡ false
-          → filter p (edit_among edit edits) ≡ filter p (edit ∷ edits)
-          → cond two (other ∷ filter p (edit_among edit edits)) (filter p (edit_among edit edits))
-          ≡ cond one (edit ∷ cond two (other ∷ filter p edits) (filter p edits))
-          (cond two (other ∷ filter p edits) (filter p edits))
-      by_both true true one_is two_is later rest = let start =
-          same edit other one_is two_is in absurd (grind (arith, nat_tests, start, later))
-      by_both true false one_is two_is later rest = rest ∙ rw one_is refl
-      by_both false true one_is two_is later rest = ap (λ more. other ∷ more) (rest ∙ rw one_is refl)
-      by_both false false one_is two_is later rest = rest ∙ rw one_is refl
-
-      by_test : (before : Bool) → nat_le edit.start other.start ≡ before
-          → filter p (edit_among edit edits) ≡ filter p (edit ∷ edits)
-          → filter p (cond before (edit ∷ other ∷ edits) (other ∷ edit_among edit edits))
-          ≡ filter p (edit ∷ other ∷ edits)
-      by_test true is rest = refl
-      by_test false is rest = by_both (p edit) (p other) refl refl is rest
+chosen_among p same edit (other ∷ edits) = grind (arith, (chosen_among p same edit edits))
 
 chosen_in_order : (p : Edit → Bool) → ByStart p → (edits : List Edit) → filter p (in_order edits) ≡ filter p edits
 chosen_in_order p same [] = refl
-chosen_in_order p same (edit ∷ edits) =
-    chosen_among p same edit _ ∙ ap (λ (more : List Edit). cond (p edit) (edit ∷ more) more)
-    (chosen_in_order p same edits)
+chosen_in_order p same (edit ∷ edits) = grind (arith, chosen_among, (chosen_in_order p same edits))
 
 any_among : (p : Edit → Bool) (edit : Edit) (edits : List Edit)
     → list_any p (edit_among edit edits) ≡ (p edit || list_any p edits)
 any_among p edit [] = refl
-any_among p edit (other ∷ edits) = by_test (nat_le edit.start other.start) (any_among p edit edits) where
-  swapped : (a b rest : Bool) → (b || (a || rest)) ≡ (a || (b || rest))
-  swapped true true rest = refl
-  swapped true false rest = refl
-  swapped false true rest = refl
-  swapped false false rest = refl
-
-  by_test : (before : Bool) → list_any p (edit_among edit edits) ≡ (p edit || list_any p edits)
-      → list_any p (cond before (edit ∷ other ∷ edits) (other ∷ edit_among edit edits))
-      ≡ (p edit || (p other || list_any p edits))
-  by_test true rest = refl
-  by_test false rest = ap (λ (b : Bool). p other || b) rest ∙ swapped (p edit) (p other) (list_any p edits)
+any_among p edit (other ∷ edits) = grind (arith, (any_among p edit edits))
 
 any_in_order : (p : Edit → Bool) (edits : List Edit) → list_any p (in_order edits) ≡ list_any p edits
 any_in_order p [] = refl
@@ -185,15 +138,8 @@ stand_in_order read edits pair =
     ≡ itself_in read pair (filter (covers pair) edits) of_value =
     sym (covered read pair (covers pair) (in_order edits) of_value)
     ∙ (ap (λ (b : Bool). cond b [] (record { code = pair.code; value = value_with read pair (first_of of_value) } ∷ []))
-    (any_in_order (covers pair) edits)
-    ∙ covered read pair (covers pair) edits of_value) in
-    ap (λ (texts : List Edit). texts_in read texts
-    ++ itself_in read pair (filter (covers pair) (in_order edits)) (filter (is_of_value pair) (in_order edits)))
-    (chosen_in_order (begins_at pair) (begins_by_start pair) edits)
-    ∙ (ap (λ (values : List Edit). texts_in read (filter (begins_at pair) edits)
-    ++ itself_in read pair (filter (covers pair) (in_order edits)) values)
-    (chosen_in_order (is_of_value pair) (value_by_start pair) edits)
-    ∙ ap (λ (own : List Group). texts_in read (filter (begins_at pair) edits) ++ own) itself)
+    (any_in_order (covers pair) edits) ∙ covered read pair (covers pair) edits of_value) in
+    grind (arith, texts_in, itself_in, chosen_in_order, begins_by_start, value_by_start)
 
 -- ---- what is written of a drawing is read again, with the ends of the images
 -- one step, wherever the walk is
@@ -202,8 +148,7 @@ step_written : (read : Reading) (how : How) (seed : Option Pair) (count : ℕ) �
     → (entity : Entity) (entities : List Entity) (path first : ℕ) → IsFound read entity
     → (spot : Spot) (place : WalkPlace) (here : Step) (more : List Shape) → IsNear read.images first spot place
     → step read.bytes how seed place entity ≡ Ok here → walk_of read.bytes how seed here.next entities ≡ Ok more
-    → IsNumbered read count path first here.shapes
-    → first + length (points_of (here.shapes ++ more)) ≤ count
+    → IsNumbered read count path first here.shapes → first + length (points_of (here.shapes ++ more)) ≤ count
     → StepWritten (group_in read.bytes entity.head) how (is_seeded seed) read.images spot
     (points_past first here.shapes) here.next (imaged_outlines read.images first here.shapes)
     (written_for read (own_edits path first place entity here) entity)
@@ -212,10 +157,7 @@ step_written read how seed count follow good lights entity entities path first a
     numbered
 step_written read how seed count follow good lights entity entities path first at spot staying here more near is more_is
     numbered inside =
-    subst (λ (s : Spot). StepWritten (group_in read.bytes entity.head) how (is_seeded seed) read.images s
-    (points_past first here.shapes) here.next (imaged_outlines read.images first here.shapes)
-    (written_for read (own_edits path first staying entity here) entity)) (sym near)
-    (kept_written read how seed count follow good lights entity path first at here is numbered)
+    grind (arith, Spot, StepWritten, is_seeded, points_past, imaged_outlines, written_for, own_edits, kept_written)
 step_written read how seed count follow good lights entity entities path first at spot (reading kind vertices) here more
     near is more_is numbered inside =
     subst (λ (s : Spot). StepWritten (group_in read.bytes entity.head) how (is_seeded seed) read.images s
@@ -238,8 +180,7 @@ step_written read how seed count follow good lights entity entities path first a
         let more_points = enough_points read.bytes how seed kind (vertices ++ vertex ∷ []) entities more rest in
         let none : first + length (points_of more) ≤ count =
         subst (λ (h : Step). first + length (points_of (h.shapes ++ more)) ≤ count) here_is inside in
-        let size = length-append vertices (vertex ∷ []) in
-        omega arith
+        let size = length-append vertices (vertex ∷ []) in omega arith
 
 module _ (read : Reading) (how : How) (seed : Option Pair) (count : ℕ) (follow : GroupsFollow)
     (good : AreGoodImages read.images count) (lights : LightsAreWritten read how seed count) (past : ℕ)
@@ -270,30 +211,9 @@ module _ (read : Reading) (how : How) (seed : Option Pair) (count : ℕ) (follow
   no_pairs : (section : Where) (place : WalkPlace) (path first : ℕ) (shapes : List Shape)
       → walk_of read.bytes how seed place [] ≡ Ok shapes → Answer section place path first shapes []
   no_pairs section free path first shapes is =
-      let none : shapes ≡ [] = cc in
-      record {
-        again = λ spot near. record {
-          outs = [];
-          walk_is = by_near spot near;
-          same = subst (λ (s : List Shape). AreBack [] (imaged_outlines read.images first s)) (sym none) none_back;
-        };
-        headed = λ begins. tt;
-        kept = kept_none _ section;
-      } where
-        by_near : (spot : Spot) → (spot ≡ alone) ⊎ (spot ≡ kept) → walk how (is_seeded seed) spot [] ≡ Some []
-        by_near spot (inl is_alone) = ap (λ (s : Spot). walk how (is_seeded seed) s []) is_alone
-        by_near spot (inr is_kept) = ap (λ (s : Spot). walk how (is_seeded seed) s []) is_kept
+      grind (arith, AreBack, imaged_outlines, none_back, kept, kept_none, Spot, alone, walk, is_seeded)
   no_pairs section staying path first shapes is =
-      let none : shapes ≡ [] = cc in
-      record {
-        again = λ spot near. record {
-          outs = [];
-          walk_is = ap (λ (s : Spot). walk how (is_seeded seed) s []) near;
-          same = subst (λ (s : List Shape). AreBack [] (imaged_outlines read.images first s)) (sym none) none_back;
-        };
-        headed = λ begins. tt;
-        kept = kept_none _ section;
-      }
+      grind (arith, Spot, walk, is_seeded, AreBack, imaged_outlines, none_back, kept, kept_none)
   no_pairs section (reading kind vertices) path first shapes is = absurd (cc)
 
   -- the trail after a pair comes after it
@@ -372,8 +292,7 @@ module _ (read : Reading) (how : How) (seed : Option Pair) (count : ℕ) (follow
       let group : Group = record { code = pair.code; value = h.value } in
       let groups : new path first place section (pair ∷ pairs) ≡ group ∷ new path first place section_too pairs =
       ap (λ (es : List Entity). flat_map (stand read (extra ++ trail read.bytes how seed path first place es))
-      (pair ∷ pairs)) same
-      ∙ ap (λ (own : List Group). own ++ new path first place section_too pairs)
+      (pair ∷ pairs)) same ∙ ap (λ (own : List Group). own ++ new path first place section_too pairs)
       (stand_single front pair pairs section_too place path first shapes known.are is_too) in
       let begins : begins_told section group ≡ false = begins_same read section pair h.value ∙ off in
       let on : behind_group section group ≡ section_too = harmless_behind read extra pair section h in
@@ -420,9 +339,7 @@ module _ (read : Reading) (how : How) (seed : Option Pair) (count : ℕ) (follow
     no_end = other_value (value_in read.bytes entity.head) section_value (codes "SEQEND") value refl
 
     free_is : step_free read.bytes how seed entity ≡ Ok here → here ≡ shapes_read []
-    free_is made = let same : Ok (shapes_read []) ≡ Ok here = sym (ap (λ (b : Bool). cond b (Ok (shapes_read []))
-        (and_then (λ (paper : Option Pair). cond (there_as read.bytes 1 paper) (Ok (stays read.bytes entity))
-        (by_kind read.bytes how seed entity)) (field_at (pos 67) entity))) ends) ∙ made in cc
+    free_is made = grind arith
 
     at_alone : (made : Told) → made.head ≡ group_in read.bytes entity.head
         → turn how (is_seeded seed) alone made ≡ Some (turn_of [])
@@ -430,13 +347,7 @@ module _ (read : Reading) (how : How) (seed : Option Pair) (count : ℕ) (follow
 
     at_kept : (made : Told) → made.head ≡ group_in read.bytes entity.head
         → turn how (is_seeded seed) kept made ≡ Some (turn_of [])
-    at_kept made head =
-        let on : ends_sections made.head ≡ true = ap ends_sections head ∙ ends in
-        let v : bytes_eq made.head.value (codes "VERTEX") ≡ false =
-        ap (λ (g : Group). bytes_eq g.value (codes "VERTEX")) head ∙ no_vertex in
-        let e : bytes_eq made.head.value (codes "SEQEND") ≡ false =
-        ap (λ (g : Group). bytes_eq g.value (codes "SEQEND")) head ∙ no_end in
-        rw (v, e) (at_alone made head)
+    at_kept made head = grind (arith, ends_sections, no_vertex, no_end, at_alone)
 
     at_either : (spot : Spot) → (spot ≡ alone) ⊎ (spot ≡ kept) → (made : Told)
         → made.head ≡ group_in read.bytes entity.head → turn how (is_seeded seed) spot made ≡ Some (turn_of [])
@@ -444,33 +355,15 @@ module _ (read : Reading) (how : How) (seed : Option Pair) (count : ℕ) (follow
     at_either spot (inr same) made head = ap (λ (s : Spot). turn how (is_seeded seed) s made) same ∙ at_kept made head
 
     by_place : (place : WalkPlace) → step read.bytes how seed place entity ≡ Ok here → IsEnd place entity here
-    by_place free made =
-        let same = free_is made in
-        record {
-          here_is = same;
-          goes = λ path first. ap (λ (h : Step). edits_with path first h.shapes) same;
-          turns = λ first spot near told_entity head. at_either spot near told_entity head;
-        }
-    by_place staying made =
-        let down : step_staying read.bytes how seed entity ≡ step_free read.bytes how seed entity =
-        rw (no_vertex, no_end) refl in
-        let same = free_is (sym down ∙ made) in
-        record {
-          here_is = same;
-          goes = λ path first. ap (λ (h : Step). edits_with path first h.shapes) same;
-          turns = λ first spot near told_entity head. at_either spot (inr near) told_entity head;
-        }
-    by_place (reading kind vertices) made = no_way (reading_step _ how seed kind vertices entity here made)
-      where
-        no_way : ReadingStep read.bytes how seed kind vertices entity here → IsEnd (reading kind vertices) entity here
-        no_way (one_vertex vertex) = let both : true ≡ false = sym vertex.is_vertex ∙ no_vertex in absurd (cc)
-        no_way (the_end end) = let both : true ≡ false = sym end.is_end ∙ no_end in absurd (cc)
+    by_place free made = grind (arith, free_is, edits_with, at_either)
+    by_place staying made = grind (arith, no_vertex, no_end, free_is, edits_with, at_either)
+    by_place (reading kind vertices) made =
+        grind (arith, reading_step, ReadingStep, one_vertex, no_vertex, the_end, no_end)
 
   -- a pair that ends a section of entities
   section_end : (front : List Pair) (pair : Pair) (pairs : List Pair) (place : WalkPlace) (path first : ℕ)
       (shapes : List Shape) (before : List PathRow) → Known front (pair ∷ pairs) Entities place path first shapes before
-      → is_coded (pos 0) pair ≡ true
-      → is_end_of_section read.bytes pair ≡ true
+      → is_coded (pos 0) pair ≡ true → is_end_of_section read.bytes pair ≡ true
       → (Known (front ++ pair ∷ []) pairs Outside free path first shapes before
       → Answer Outside free path first shapes pairs) → Answer Entities place path first shapes (pair ∷ pairs)
   section_end front pair pairs place path first shapes before known is_head ends rest =
@@ -698,8 +591,7 @@ module _ (read : Reading) (how : How) (seed : Option Pair) (count : ℕ) (follow
             let there = here_tiles read how seed count follow good lights past tiles lines extra harmless
             (front ++ (head ∷ entity.pairs)) other others
             (all_pairs ∙ sym (append_assoc front (head ∷ entity.pairs) (other ∷ others))) in
-            let starts : other.start ≡ entity_end entity =
-            body_end head.end (at.0 + 2) past entity.pairs other others
+            let starts : other.start ≡ entity_end entity = body_end head.end (at.0 + 2) past entity.pairs other others
             (subst (λ (ps : List Pair). AreTiles head.end (at.0 + 2) ps past) are at.1.5) in
             let t = there.1 in
             let follows = tiles_follow other.end (there.0 + 2) others past t.5 in
@@ -740,11 +632,8 @@ module _ (read : Reading) (how : How) (seed : Option Pair) (count : ℕ) (follow
   -- all pairs from here on
   pub all_again : (most : ℕ) (front pairs : List Pair) (section : Where) (place : WalkPlace) (path first : ℕ)
       (shapes : List Shape) (before : List PathRow) → length pairs ≤ most
-      → State front pairs section place path first shapes before
-      → Goal section place path first shapes pairs
-  all_again most front [] section place path first shapes before few known =
-      no_pairs read how seed count follow good lights past tiles lines extra harmless section place path first shapes
-      known.is
+      → State front pairs section place path first shapes before → Goal section place path first shapes pairs
+  all_again most front [] section place path first shapes before few known = grind (arith, no_pairs)
   all_again zero front (pair ∷ pairs) section place path first shapes before few known = absurd (omega arith)
   all_again (suc most) front (pair ∷ pairs) section place path first shapes before few known =
       by_section section known (λ front_too pairs_too section_too place_too path_too first_too shapes_too before_too
@@ -781,8 +670,7 @@ module _ (read : Reading) (how : How) (seed : Option Pair) (count : ℕ) (follow
             known.are in
             let last = last_ends read.bytes pair (subst (λ (ps : List Pair). AreInLines read.bytes (pair ∷ ps))
             (sym more_is) on) in
-            let both : true ≡ false = sym last ∙ ends_is in
-            absurd (cc)
+            let both : true ≡ false = sym last ∙ ends_is in absurd (cc)
         in_entities true false head_is ends_is known rest (next_pair ∷ others) more_is =
             subst (λ (ps : List Pair). Goal Entities place path first shapes (pair ∷ ps)) more_is
             (whole front pair next_pair others place path first shapes before

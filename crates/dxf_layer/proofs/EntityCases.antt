@@ -3,7 +3,7 @@ use Rattle.std.proofs.Common.{◌≡◌, ◌==◌, ℕ, zero, suc, ◌+◌, ◌-
 use Rattle.std.proofs.Common.{List, [], ◌∷◌, ◌++◌, map, filter, flat_map, length, take, drop, Option, Some, arith}
 use Rattle.std.proofs.Common.{codes, get_or, pos, cond, None, Ok}
 use Rattle.std.proofs.lemmas.List.{append-nil, length-take-le, length-drop, get_or-append-add, length-append, drop-drop}
-use Rattle.std.specs.Prelude.{⊤, ◌||◌}
+use Rattle.std.specs.Prelude.{⊤}
 use Rattle.std.specs.Option.{is_some}
 use Rattle.std.proofs.lemmas.Bool.Decides.{nat_tests}
 use Rattle.std.proofs.Math.Seq.{take-add}
@@ -26,7 +26,7 @@ use Rattle.dxf_entities.specs.Shapes.{point_of, Shape, spot_edits}
 use Rattle.dxf_entities.specs.Polylines.{kind_with, heavy_shape, kind_of, vertices_in, count_of, light_shape}
 use Rattle.dxf_entities.specs.Polylines.{light_shapes}
 use Rattle.dxf_entities.specs.declared.drawing.PointFields.{PointFields as Read_point}
-use Rattle.dxf_entities.specs.Fields.{entity_fields, not_zero, zero_at}
+use Rattle.dxf_entities.specs.Fields.{entity_fields, zero_at}
 use Rattle.dxf_entities.specs.Points.{spot_at, dot_of, point_shapes, insert_shapes, second_spot, dots_of, text_shapes}
 use Rattle.dxf_entities.specs.Points.{line_of, line_ends, line_shapes}
 use Rattle.dxf_entities.specs.declared.points.LineFields.{LineFields}
@@ -39,8 +39,7 @@ use Rattle.dxf_entities.proofs.EntityEdits.{line_parts}
 use Rattle.dxf_entities.proofs.Members.{Follow, went, lies, by_past}
 use Rattle.dxf_entities.proofs.WholeShapes.{edits_with}
 use Rattle.dxf_copies.proofs.GroupDrawings.{Spot, Turn, turn_of, ends_sections, alone, open_line, IsReadSo, turn}
-use Rattle.dxf_copies.proofs.GroupDrawings.{AreBack, flat_back, IsWritten, one_written, told_groups}
-use Rattle.dxf_copies.proofs.GroupDrawings.{kept}
+use Rattle.dxf_copies.proofs.GroupDrawings.{AreBack, flat_back, IsWritten, one_written, told_groups, kept}
 use Rattle.dxf_copies.proofs.ValueTurns.{stand, texts_in, AreGoodImages, AreSome, some_at, AreValueEdits}
 use Rattle.dxf_copies.proofs.WholeTurns.{IsSet, spot_value_edits, point_written, insert_written, grouped_no_head}
 use Rattle.dxf_copies.proofs.WholeTurns.{whole_of, line_written, IsSecond, is_second, text_written, text_both}
@@ -66,11 +65,7 @@ written_for read own entity = flat_map (stand read own) (entity.head ∷ entity.
     ++ texts_at read own (entity_end entity)
 
 pub no_images : (images : Runs) (first : ℕ) → images_of images first (first + 0) ≡ []
-no_images images first =
-    let same : first + 0 ≡ first = omega arith in
-    let none : run_begin images first - run_begin images first ≡ 0 = omega arith in
-    ap (λ n. take (run_begin images n - run_begin images first) (drop (run_begin images first) images.points)) same
-    ∙ ap (λ n. take n (drop (run_begin images first) images.points)) none
+no_images images first = grind arith
 
 -- images of a range by a point between
 pub images_both : (images : Runs) (count a b c : ℕ) → AreGoodImages images count → a ≤ b → b < c → c ≤ count
@@ -104,8 +99,7 @@ pub stays_written : (read : Reading) (how : How) (seeded : Bool) (from : Spot) (
     → IsWritten (group_in read.bytes entity.head) how seeded from here.next wanted (written_for read [] entity)
 stays_written read how seeded from entity here wanted set goes_on is back =
     let groups : written_for read [] entity ≡ told_groups (entity_told read.bytes entity) =
-    append-nil (flat_map (stand read []) (entity.head ∷ entity.pairs))
-    ∙ each_stays read (entity.head ∷ entity.pairs) in
+    append-nil (flat_map (stand read []) (entity.head ∷ entity.pairs)) ∙ each_stays read (entity.head ∷ entity.pairs) in
     subst (IsWritten (group_in read.bytes entity.head) how seeded from here.next wanted) (sym groups)
     (one_written how seeded from (entity_told read.bytes entity) here wanted
     (record {
@@ -149,8 +143,7 @@ end_written read how seed entity kind vertices count first set goes_on no_vertex
     let image : imaged_outlines read.images first (heavy_shape kind vertices ∷ []) ≡ light_outline kind points ∷ [] =
     ap (λ (n : ℕ). flat_outline (kind_with kind vertices) (images_of read.images first (first + n)) ∷ []) same_count ∙
     ap (λ (k : Option PathKind). flat_outline k points ∷ []) (sym (kinds_same _ count first kind vertices good inside))
-    in
-    stays_written read how _ _ entity _ _ set goes_on here (flat_back _ _ (refl, tt) image)
+    in stays_written read how _ _ entity _ _ set goes_on here (flat_back _ _ (refl, tt) image)
 
 -- nothing is written after an entity whose values, or all whose pairs, are replaced
 behind_whole : (read : Reading) (own : List Edit) (entity : Entity) → filter (is_at (entity_end entity)) own ≡ []
@@ -165,10 +158,7 @@ positions_found : (rows before more : List PathRow) (path : ℕ) (images : Runs)
 positions_found rows before more path images row are count =
     let none : length before + 0 ≡ length before = omega arith in
     let at = ap (λ n. get_or (before ++ row ∷ more) n no_path) (sym none) ∙ get_or-append-add before (row ∷ more) 0
-    no_path in
-    ap (λ (list : List PathRow). path_positions list images path) are
-    ∙ (ap (λ n. path_positions (before ++ row ∷ more) images n) (sym count)
-    ∙ ap (λ (found : PathRow). positions_of images found.first found.past) at)
+    no_path in grind arith
 
 -- ---- what is written in the place of an entity that is read, by its kind
 -- each dot's image is alone, and the images of a line that has heights have some, all others none
@@ -219,12 +209,7 @@ pub not_at_end : (from past : ℕ) (pairs : List Pair) → Follow from pairs pas
     → AreValueEdits pairs own → filter (is_at past) own ≡ []
 not_at_end from past pairs follow some [] are = refl
 not_at_end from past pairs follow some (edit ∷ own) are =
-    let at = lies from _ pairs past follow are.0.is_in in
-    let inside = some_at _ pairs some are.0.is_in in
-    let s = are.0.start in
-    let e = at.ends in
-    let off : is_at past edit ≡ false = grind (arith, nat_tests, s, e, inside) in
-    rw off (not_at_end from past pairs follow some own are.1)
+    grind (arith, lies, some_at, (not_at_end from past pairs follow some own are.1))
 
 -- nothing is written after values
 values_end : (read : Reading) (entity : Entity) → IsSet read.bytes entity → (own : List Edit)
@@ -252,23 +237,11 @@ Goal read how seed entity path first shapes =
 -- the second point of a text was read
 second_found : (bytes : List ℕ) (exact : Bool) (entity : Entity) (other : Read_point)
     → IsSecond bytes exact entity (Some other) → spot_at bytes exact (pos 11) (pos 21) entity ≡ Ok other
-second_found bytes exact entity other second =
-    by_test (not_zero bytes second.across || not_zero bytes second.along) second.by where
-      by_test : (wanted : Bool) → cond wanted (and_then (λ (spot : Read_point). Ok (Some spot))
-          (spot_at bytes exact (pos 11) (pos 21) entity)) (Ok None) ≡ Ok (Some other)
-          → spot_at bytes exact (pos 11) (pos 21) entity ≡ Ok other
-      by_test true made =
-          let found = went _ (spot_at bytes exact (pos 11) (pos 21) entity) _ made in
-          let same : found.value ≡ other = cc in
-          found.is ∙ ap Ok same
-      by_test false made = absurd (cc)
+second_found bytes exact entity other second = grind (arith, went)
 
 light_count : (kind : PathKind) (vertices : List VertexFields) (number : Pair) (first count : ℕ)
     → first + length (points_of (light_shape kind vertices number ∷ [])) ≤ count → first + length vertices ≤ count
-light_count kind vertices number first count inside =
-    let one = length-append (map (λ (vertex : VertexFields). point_of vertex.spot) vertices) (points_of []) in
-    let two = length_mapped (λ (vertex : VertexFields). point_of vertex.spot) vertices in
-    omega arith
+light_count kind vertices number first count inside = grind (arith, length-append, points_of, length_mapped)
 
 module _ (read : Reading) (how : How) (seed : Option Pair) (count : ℕ) (follow : GroupsFollow)
     (good : AreGoodImages read.images count) (lights : LightsAreWritten read how seed count) (entity : Entity)
@@ -424,8 +397,7 @@ module _ (read : Reading) (how : How) (seed : Option Pair) (count : ℕ) (follow
         by_tests : (point line light text : Bool) → is_of_kind read.bytes (codes "POINT") entity ≡ point
             → is_of_kind read.bytes (codes "LINE") entity ≡ line
             → is_of_kind read.bytes (codes "LWPOLYLINE") entity ≡ light
-            → is_of_kind read.bytes (codes "TEXT") entity ≡ text
-            → cond point (point_shapes read.bytes how.exact entity)
+            → is_of_kind read.bytes (codes "TEXT") entity ≡ text → cond point (point_shapes read.bytes how.exact entity)
             (cond line (line_shapes read.bytes how.exact seed entity)
             (cond light (light_shapes read.bytes how.exact entity)
             (cond text (text_shapes read.bytes how.exact entity) (insert_shapes read.bytes how.exact entity))))

@@ -1,14 +1,12 @@
 -- The handles of copies, one after the other.
-use Rattle.std.proofs.Common.{◌≡◌, ℕ, ◌+◌, ◌-◌, ◌<◌, pos, Bool, true, false, cond, refl, ap, sym, ◌∙◌, subst, arith}
-use Rattle.std.proofs.Common.{List, [], ◌∷◌, ◌++◌, length, filter, Option, None, Some, Ok, ◌==◌, zero, suc, ◌≤◌, take}
-use Rattle.std.proofs.Common.{flat_map}
-use Rattle.std.specs.Prelude.{nat_le, nat_lt, sum_by, Contains, slice_index_or}
+use Rattle.std.proofs.Common.{◌≡◌, ℕ, ◌+◌, ◌-◌, ◌<◌, Bool, true, false, cond, refl, ap, sym, ◌∙◌, subst, arith, List}
+use Rattle.std.proofs.Common.{[], ◌∷◌, ◌++◌, length, filter, Option, None, Some, Ok, zero, suc, ◌≤◌, take, flat_map}
+use Rattle.std.specs.Prelude.{nat_le, sum_by, Contains, slice_index_or}
 use Rattle.std.specs.List.{AllByRecursion, range_with_len}
 use Rattle.std.proofs.lemmas.List.Elements.{Contains-push, Contains-append_left, Contains-append_right}
 use Rattle.std.proofs.lemmas.List.Sums.{sum_by-cons}
 use Rattle.std.specs.List.Sorted.{IsStrictlyIncreasing}
 use Rattle.std.specs.Fmt.{digits}
-use Rattle.std.proofs.lemmas.Bool.Decides.{nat_tests}
 use Rattle.std.proofs.lemmas.List.{append_assoc, length-append}
 use Rattle.std.proofs.lemmas.List.FromFn.{length-range_with_len, get_or-range_with_len}
 use Rattle.plain_laws.proofs.Lists.{all_append, take_front}
@@ -16,7 +14,6 @@ use Rattle.plane_base.specs.declared.shapes.Pt.{Pt}
 use Rattle.sheet_base.specs.declared.edits.Edit.{Edit}
 use Rattle.sheet_base.specs.declared.edits.What.TheVariants as edits
 use Rattle.sheet_base.specs.declared.flags.How.{How}
-use Rattle.sheet_base.specs.ImageFits.{path_positions}
 use Rattle.sheet_base.specs.Sheets.{Contents}
 use Rattle.sheet_base.specs.declared.edits.What.{What}
 use Rattle.sheet_base.specs.PointHeights.{Position}
@@ -27,17 +24,17 @@ use Rattle.dxf_pairs.specs.Laws.{PairsTile}
 use Rattle.dxf_pairs.specs.Pairs.{drawing}
 use Rattle.dxf_entities.specs.declared.drawing.PointFields.{PointFields}
 use Rattle.dxf_entities.specs.declared.drawing.VertexFields.{VertexFields}
-use Rattle.dxf_entities.specs.Entities.{Entity, is_coded, entity_end}
-use Rattle.dxf_entities.specs.Fields.{at_most_one, entity_fields, field_at}
+use Rattle.dxf_entities.specs.Entities.{Entity}
+use Rattle.dxf_entities.specs.Fields.{at_most_one}
 use Rattle.dxf_entities.specs.Handles.{has_next, handle}
 use Rattle.dxf_entities.specs.Polylines.{vertex_edits, entity_vertex, own_vertices, copy_edits}
 use Rattle.dxf_entities.specs.SectionPlaces.{entities_of}
 use Rattle.dxf_entities.specs.Seeds.{seed_of, seed_edits}
 use Rattle.dxf_entities.specs.Shapes.{Shape, value_edit, spot_edits}
-use Rattle.dxf_copies.specs.Rendering.{Reading, run_of, entity_at, has_handle, taken_by, taken_as, handles_of_edit, first_handle}
-use Rattle.dxf_copies.specs.Rendering.{next_at, next_behind, text_as, text_of, is_earlier}
-use Rattle.dxf_layer.specs.Copies.{HasNextEdit, line_values, vertex_values, handles_in, values_as, given_to, handles_of_copies}
-use Rattle.dxf_layer.specs.Copies.{all_given, HandlesAreNew}
+use Rattle.dxf_copies.specs.Rendering.{Reading, run_of, entity_at, has_handle, taken_by, taken_as, handles_of_edit}
+use Rattle.dxf_copies.specs.Rendering.{first_handle, next_at, next_behind, text_of, is_earlier}
+use Rattle.dxf_layer.specs.Copies.{HasNextEdit, line_values, vertex_values, handles_in, values_as, given_to}
+use Rattle.dxf_layer.specs.Copies.{handles_of_copies, all_given, HandlesAreNew}
 use Rattle.dxf_layer.specs.Drawings.{contents_of_seed, drawing_sheet}
 use Rattle.dxf_layer.specs.InsideEditOrder.{edit_among, in_order}
 use Rattle.dxf_layer.specs.InsideSheets.{walked_sheet_of}
@@ -77,10 +74,7 @@ abbrev AllTakeNone : Reading → List Edit → Type 0
 AllTakeNone read edits = AllByRecursion (TakesNone read) edits
 
 takes_none : (read : Reading) (edit : Edit) → taken_as read edit.start edit.what ≡ 0 → TakesNone read edit
-takes_none read edit is = by_test (nat_lt edit.start edit.end) where
-  by_test : (some : Bool) → cond some (taken_as read edit.start edit.what) 0 ≡ 0
-  by_test true = is
-  by_test false = refl
+takes_none read edit is = grind arith
 
 -- an entity without a handle takes none
 taken_of : (found : Option Entity) (entity : Entity) (copies : ℕ) → found ≡ Some entity → has_handle entity ≡ false
@@ -99,34 +93,20 @@ none_wanted (Some pair) own is = absurd (cc)
 
 -- and it has none where the drawing has no next one
 no_handle : (entity : Entity) (own : Unit {0}) → handle None entity ≡ Ok own → has_handle entity ≡ false
-no_handle entity own is =
-    let found = went _ (field_at (pos 5) entity) own is in
-    let none : found.value ≡ None = none_wanted _ own found.gives in
-    let empty : filter (is_coded (pos 5)) (entity_fields entity) ≡ [] =
-    none_found _ (found.is ∙ ap Ok none) in
-    ap (λ (pairs : List Pair). nat_lt 0 (length pairs)) empty
+no_handle entity own is = grind (arith, went, none_wanted, none_found)
 
 vertex_handle : (bytes : List ℕ) (exact : Bool) (entity : Entity) (vertex : VertexFields)
     → entity_vertex bytes exact None entity ≡ Ok vertex → has_handle entity ≡ false
-vertex_handle bytes exact entity vertex is =
-    let made : PointFields → VertexFields =
-    λ spot. record { spot = spot; start = entity.head.start; past = entity_end entity } in
-    let own = went _ (handle None entity) vertex is in
-    no_handle entity _ own.is
+vertex_handle bytes exact entity vertex is = grind (arith, went, no_handle)
 
 -- ---- the edits of each kind of entity, where the drawing has no next handle
 spot_none : (read : Reading) (n : ℕ) (spot : PointFields) → AllTakeNone read (spot_edits n spot)
-spot_none read n spot = (
-  takes_none read (value_edit (edits.X n) spot.x.pair) refl,
-  (takes_none read (value_edit (edits.Y n) spot.y.pair) refl, tt),
-)
+spot_none read n spot = grind (arith, takes_none)
 
 vertices_none : (read : Reading) (n : ℕ) (vertices : List VertexFields) → AllTakeNone read (vertex_edits n vertices)
 vertices_none read n [] = tt
 vertices_none read n (vertex ∷ vertices) =
-    let room : Edit = record { start = vertex.past; end = vertex.past; what = edits.Vertices n } in
-    all_append (TakesNone read) (spot_edits n vertex.spot) (room ∷ vertex_edits (n + 1) vertices)
-    (spot_none read n vertex.spot) (takes_none read room refl, vertices_none read (n + 1) vertices)
+    grind (arith, all_append, spot_none, takes_none, (vertices_none read (n + 1) vertices))
 
 light_none : (read : Reading) (vertices : List VertexFields) (count : Pair) (first : ℕ)
     → AllTakeNone read (vertex_edits first vertices
@@ -158,12 +138,7 @@ none_of_kinds : (read : Reading) (how : How) → HoldsOfKinds read how None (Hav
 none_of_kinds read how = record {
   dots = λ entity spot among is path first at. spot_none read first spot;
   seconds = λ entity spot among is path first at. spot_none read first spot;
-  lines = λ entity ends among is path first at. (
-    takes_none read (whole_of entity (edits.Lines path)) (taken_of (entity_at read entity.head.start) entity
-        (length (path_positions read.sheet.paths read.images path) - 1) among.found
-        (no_handle entity tt (line_parts read.bytes how.exact None entity ends is).own)),
-    tt,
-  );
+  lines = grind (arith, takes_none, whole_of, taken_of, no_handle, line_parts);
   lights = λ entity kind vertices count among is count_is path first at. light_none read vertices count first;
   heavies = λ entities kind vertices among is path first at. copies_none read how.exact entities vertices first among is;
   drops = λ entity among asked other path first at. (takes_none read (whole_of entity edits.Drop) refl, tt);
@@ -172,11 +147,7 @@ none_of_kinds read how = record {
 -- ---- all edits
 sum_none : (read : Reading) (edits : List Edit) → AllTakeNone read edits → sum_by (handles_of_edit read) edits ≡ 0
 sum_none read [] none = refl
-sum_none read (edit ∷ edits) none =
-    let own : handles_of_edit read edit ≡ 0 = none.0 in
-    let rest : sum_by (handles_of_edit read) edits ≡ 0 = sum_none read edits none.1 in
-    let both : handles_of_edit read edit + sum_by (handles_of_edit read) edits ≡ 0 = omega (arith, own, rest) in
-    sum_by-cons (handles_of_edit read) edit edits ∙ both
+sum_none read (edit ∷ edits) none = grind (arith, sum_by-cons, (sum_none read edits none.1))
 
 has_next_edit : (read : Reading) (how : How) → PairsTile → drawing read.bytes ≡ Ok read.pairs
     → drawing_sheet how read.bytes ≡ Ok read.sheet → 0 < sum_by (handles_of_edit read) read.sheet.edits → HasNextEdit read
@@ -198,10 +169,7 @@ has_next_edit read how tile pairs_are sheet_is some =
       subst (λ (sheet : Contents). Contains sheet.edits (value_edit edits.NextHandle seed)) (sym same)
           (next_edit seed shapes),
     )
-    by_seed None is shapes same each =
-        let none : sum_by (handles_of_edit read) read.sheet.edits ≡ 0 =
-        sum_none read read.sheet.edits (each (none_of_kinds read how) tt) in
-        absurd (omega (arith, some, none))
+    by_seed None is shapes same each = grind (arith, sum_none, none_of_kinds)
 
 -- ---- the handles that copies are given follow each other from the next handle of the drawing on
 -- ---- the handles of the copies of one entity
@@ -229,66 +197,38 @@ vertices_behind next (image ∷ images) = ap (λ (rest : List ℕ). next ∷ res
 vertex_handles : (next : ℕ) (images : List Pt)
     → handles_in (vertex_values true next images) ≡ range_with_len next (length images - 1)
 vertex_handles next [] = refl
-vertex_handles next (image ∷ images) =
-    let count : length images ≡ length (image ∷ images) - 1 = omega arith in
-    vertices_behind next images ∙ ap (range_with_len next) count
+vertex_handles next (image ∷ images) = grind (arith, vertices_behind)
 
 given_line : (next : ℕ) (images : List Position) (found : Option Entity)
     → given_to found (line_values true next images) ≡ range_with_len next (taken_by found (length images - 1))
 given_line next images None = refl
-given_line next images (Some entity) = by_test (has_handle entity)
-  where
-    by_test : (has : Bool) → cond has (handles_in (line_values true next images)) []
-        ≡ range_with_len next (cond has ((length images - 1) - 1) 0)
-    by_test true = line_handles next images
-    by_test false = refl
+given_line next images (Some entity) = grind (arith, line_handles)
 
 given_vertex : (next : ℕ) (images : List Pt) (found : Option Entity)
     → given_to found (vertex_values true next images) ≡ range_with_len next (taken_by found (length images))
 given_vertex next images None = refl
-given_vertex next images (Some entity) = by_test (has_handle entity)
-  where
-    by_test : (has : Bool) → cond has (handles_in (vertex_values true next images)) []
-        ≡ range_with_len next (cond has (length images - 1) 0)
-    by_test true = vertex_handles next images
-    by_test false = refl
+given_vertex next images (Some entity) = grind (arith, vertex_handles)
 
 given_none : (next : ℕ) (found : Option Entity) → given_to found [] ≡ range_with_len next 0
 given_none next None = refl
-given_none next (Some entity) = by_test (has_handle entity)
-  where
-    by_test : (has : Bool) → cond has [] [] ≡ range_with_len next 0
-    by_test true = refl
-    by_test false = refl
+given_none next (Some entity) = grind arith
 
 given_as : (read : Reading) (place : ℕ) (what : What) → given_to (entity_at read place) (values_as read place what)
     ≡ range_with_len (next_at read place) (taken_as read place what)
-given_as read place (edits.Lines path) = given_line (next_at read place)
-    (path_positions read.sheet.paths read.images path)
-    (entity_at read place)
+given_as read place (edits.Lines path) = grind (arith, given_line)
 given_as read place (edits.Vertex point) =
     given_vertex (next_at read place) (run_of read.images point) (entity_at read place)
 given_as read place what = given_none (next_at read place) (entity_at read place)
 
 given_is : (read : Reading) (edit : Edit) → handles_of_copies read edit ≡ range_with_len (next_at read edit.start) (handles_of_edit read edit)
-given_is read edit = by_test (nat_lt edit.start edit.end)
-  where
-    by_test : (some : Bool) → cond some (given_to (entity_at read edit.start) (values_as read edit.start edit.what)) []
-        ≡ range_with_len (next_at read edit.start) (cond some (taken_as read edit.start edit.what) 0)
-    by_test true = given_as read edit.start edit.what
-    by_test false = refl
+given_is read edit = grind (arith, given_as)
 
 -- ---- those of all edits
 range_both : (from m n : ℕ) → range_with_len from m ++ range_with_len (from + m) n ≡ range_with_len from (m + n)
-range_both from zero n =
-    let none : from + 0 ≡ from = omega arith in
-    let all : n ≡ 0 + n = omega arith in
-    ap (λ (k : ℕ). range_with_len k n) none ∙ ap (range_with_len from) all
+range_both from zero n = grind arith
 range_both from (suc m) n =
     let on : from + suc m ≡ from + 1 + m = omega arith in
-    let all : suc (m + n) ≡ suc m + n = omega arith in
-    ap (λ (rest : List ℕ). from ∷ rest) (ap (λ (k : ℕ). range_with_len (from + 1) m ++ range_with_len k n) on
-    ∙ range_both (from + 1) m n) ∙ ap (range_with_len from) all
+    let all : suc (m + n) ≡ suc m + n = omega arith in grind (arith, (range_both (from + 1) m n))
 
 at_front : (front : List Edit) (edit : Edit) (behind : List Edit)
     → slice_index_or (front ++ edit ∷ behind) (length front) no_edit ≡ edit
@@ -339,11 +279,7 @@ rest_given read front (edit ∷ behind) order are =
 
 -- ---- numbers that follow each other
 range_increases : (from count : ℕ) → IsStrictlyIncreasing (range_with_len from count)
-range_increases from count k within =
-    let inside : k + 1 < count = omega (arith, length-range_with_len from count) in
-    let here = get_or-range_with_len from count k 0 (omega arith) in
-    let next = get_or-range_with_len from count (k + 1) 0 inside in
-    omega (arith, here, next)
+range_increases from count k within = grind (arith, length-range_with_len, here, get_or-range_with_len)
 
 range_below : (from count bound : ℕ) → from + count ≤ bound
     → AllByRecursion (λ handle. handle < bound) (range_with_len from count)
@@ -353,9 +289,7 @@ range_below from (suc count) bound most = (omega arith, range_below (from + 1) c
 -- the next handle is written where some were given
 seed_written : (read : Reading) (edit : Edit) (count : ℕ) → next_behind read ≡ first_handle read + count → 0 < count
     → edit.what ≡ edits.NextHandle → text_of read edit ≡ digits 16 true (next_behind read)
-seed_written read edit count behind some is =
-    let other : (next_behind read == first_handle read) ≡ false = grind (arith, nat_tests, behind, some) in
-    ap (text_as read (next_at read edit.start) edit) is ∙ rw other refl
+seed_written read edit count behind some is = grind arith
 
 pub handles_are_new : PairsTile → HandlesAreNew
 handles_are_new tile how bytes pairs sheet images pairs_are sheet_is = record {

@@ -15,7 +15,7 @@ use Rattle.sheet_base.specs.declared.faults.LayerFault.TheVariants.{Count}
 use Rattle.sheet_base.specs.ImageFits.{Runs, run_begin, images_of}
 use Rattle.sheet_base.specs.Segments.{no_point}
 use Rattle.dxf_pairs.specs.declared.pairs.Pair.{Pair}
-use Rattle.dxf_pairs.specs.Groups.{Group, groups_of, group_in}
+use Rattle.dxf_pairs.specs.Groups.{Group, group_in}
 use Rattle.dxf_pairs.specs.Laws.{AreTiles}
 use Rattle.dxf_pairs.specs.InLines.{GroupsFollow}
 use Rattle.dxf_entities.specs.declared.drawing.VertexFields.{VertexFields}
@@ -24,7 +24,7 @@ use Rattle.dxf_entities.specs.Polylines.{vertex_edits, kind_of, kind_with, verti
 use Rattle.dxf_entities.specs.Entities.{Entity, is_of_kind, entity_end, past_pairs}
 use Rattle.dxf_entities.specs.Fields.{entity_fields, wanted_at}
 use Rattle.dxf_copies.specs.PairGroups.{begins_at, covers, is_of_value}
-use Rattle.dxf_copies.specs.Rendering.{Reading, text_of, crossings_of, image_of}
+use Rattle.dxf_copies.specs.Rendering.{Reading, crossings_of, image_of}
 use Rattle.dxf_entities.proofs.Members.{IsIn, Follow, lies, went, wanted_is}
 use Rattle.dxf_entities.proofs.GroupShapes.{coded, fields_in, groups_in, fields_told, itself, one_value, value_wanted}
 use Rattle.dxf_entities.proofs.GroupShapes.{next, told, flat_outline, is_seeded, kind_from, kind_in, kind_told}
@@ -64,51 +64,13 @@ rooms n (vertex ∷ vertices) = room n vertex ∷ rooms (n + 1) vertices
 without_rooms : (q : Edit → Bool) (n : ℕ) (vertices : List VertexFields) (more : List Edit) → filter q (rooms n vertices) ≡ []
     → filter q (vertex_edits n vertices ++ more) ≡ filter q (number_edits n vertices ++ more)
 without_rooms q n [] more none = refl
-without_rooms q n (vertex ∷ vertices) more none =
-    let x = value_edit (edits.X n) vertex.spot.x.pair in
-    let y = value_edit (edits.Y n) vertex.spot.y.pair in
-    ap (λ (rest : List Edit). cond (q x) (x ∷ cond (q y) (y ∷ rest) rest) (cond (q y) (y ∷ rest) rest))
-    (by_test (q (room n vertex)) none (without_rooms q (n + 1) vertices more))
-  where
-    by_test : (here : Bool) → cond here (room n vertex ∷ filter q (rooms (n + 1) vertices))
-        (filter q (rooms (n + 1) vertices)) ≡ []
-        → (filter q (rooms (n + 1) vertices) ≡ []
-        → filter q (vertex_edits (n + 1) vertices ++ more) ≡ filter q (number_edits (n + 1) vertices ++ more))
-        → cond here (room n vertex ∷ filter q (vertex_edits (n + 1) vertices ++ more))
-        (filter q (vertex_edits (n + 1) vertices ++ more)) ≡ filter q (number_edits (n + 1) vertices ++ more)
-    by_test true none rest = absurd (cc)
-    by_test false none rest = rest none
+without_rooms q n (vertex ∷ vertices) more none = grind (arith, room, (without_rooms q (n + 1) vertices more))
 
 only_rooms : (q : Edit → Bool) (n : ℕ) (vertices : List VertexFields) (more : List Edit)
     → filter q (number_edits n vertices ++ more) ≡ []
     → filter q (vertex_edits n vertices ++ more) ≡ filter q (rooms n vertices)
 only_rooms q n [] more none = none
-only_rooms q n (vertex ∷ vertices) more none =
-    by_tests (q (value_edit (edits.X n) vertex.spot.x.pair)) (q (value_edit (edits.Y n) vertex.spot.y.pair)) none
-    (only_rooms q (n + 1) vertices more) where
-      x : Edit
-      x = value_edit (edits.X n) vertex.spot.x.pair
-
-      y : Edit
-      y = value_edit (edits.Y n) vertex.spot.y.pair
-
-      all : List Edit
-      all = filter q (vertex_edits (n + 1) vertices ++ more)
-
-      here : List Edit → List Edit
-      here rest = cond (q (room n vertex)) (room n vertex ∷ rest) rest
-
-      by_tests : (a b : Bool) → cond a (x ∷ cond b (y ∷ filter q (number_edits (n + 1) vertices ++ more))
-          (filter q (number_edits (n + 1) vertices ++ more)))
-          (cond b (y ∷ filter q (number_edits (n + 1) vertices ++ more))
-          (filter q (number_edits (n + 1) vertices ++ more)))
-          ≡ []
-          → (filter q (number_edits (n + 1) vertices ++ more) ≡ [] → all ≡ filter q (rooms (n + 1) vertices))
-          → cond a (x ∷ cond b (y ∷ here all) (here all)) (cond b (y ∷ here all) (here all))
-          ≡ here (filter q (rooms (n + 1) vertices))
-      by_tests true b none rest = absurd (cc)
-      by_tests false true none rest = absurd (cc)
-      by_tests false false none rest = ap here (rest none)
+only_rooms q n (vertex ∷ vertices) more none = grind (arith, room, (only_rooms q (n + 1) vertices more))
 
 -- the texts at a place
 abbrev pub texts_of : Reading → ℕ → List VertexFields → ℕ → List Group
@@ -138,10 +100,7 @@ module _ (read : Reading) (all : List Pair) where
         (λ place less. same place (omega (arith, ends, less)) ∙ later place less) known.1,
   ) where
     here : texts_of read n (vertex ∷ vertices) vertex.past ≡ point_groups (crossings_of read.images n)
-    here =
-        let is = same_place vertex.past in
-        let none = none_at vertex.spot.y.pair.end (n + 1) vertex.past vertices known.1 known.2 in
-        rw (is, none) (append-nil (groups_of (text_of read (room n vertex))) ∙ known.0.text)
+    here = grind (arith, same_place, none_at, append-nil, room)
 
     later : (place : ℕ) → vertex.past < place
         → texts_of read n (vertex ∷ vertices) place ≡ texts_of read (n + 1) vertices place
@@ -155,15 +114,12 @@ module _ (read : Reading) (all : List Pair) where
         by_test : (here : Bool) → AreNumbers (texts_in read (filter p (rooms (n + 1) vertices)))
             → AreNumbers (texts_in read (cond here (room n vertex ∷ filter p (rooms (n + 1) vertices))
             (filter p (rooms (n + 1) vertices))))
-        by_test true rest = numbers_both (groups_of (text_of read (room n vertex)))
-            (texts_in read (filter p (rooms (n + 1) vertices)))
-            (subst AreNumbers (sym known.0.text) (points_numbers (crossings_of read.images n))) rest
+        by_test true rest = grind (arith, numbers_both, room, texts_in, AreNumbers, points_numbers)
         by_test false rest = rest
 
   images_are : (value : Pair → List ℕ) (more : List Edit) (from n : ℕ) (vertices : List VertexFields)
       → AreKnown read all from n vertices → ((pair : Pair) → from ≤ pair.value
-      → value pair ≡ own_value read (number_edits n vertices ++ more) pair)
-      → AreImages value read.images n vertices
+      → value pair ≡ own_value read (number_edits n vertices ++ more) pair) → AreImages value read.images n vertices
   images_are value more from n [] known same = tt
   images_are value more from n (vertex ∷ vertices) known same = (
     same x k.low ∙ first_value read (edits.X n) x (value_edit (edits.Y n) y ∷ rest),
@@ -188,34 +144,13 @@ module _ (read : Reading) (all : List Pair) where
 
     later : (pair : Pair) → vertex.spot.y.pair.end ≤ pair.value
         → value pair ≡ own_value read (number_edits (n + 1) vertices ++ more) pair
-    later pair above =
-        let l = known.0.low in
-        let o = known.0.order in
-        let i = known.0.inside in
-        let first : (vertex.spot.x.pair.value == pair.value) ≡ false = grind (arith, nat_tests, o, i, above) in
-        let second : (vertex.spot.y.pair.value == pair.value) ≡ false = grind (arith, nat_tests, i, above) in
-        same pair (omega (arith, l, o, i, above))
-        ∙ (later_value read (edits.X n) pair vertex.spot.x.pair
-        (value_edit (edits.Y n) vertex.spot.y.pair ∷ (number_edits (n + 1) vertices ++ more)) first
-        ∙ later_value read (edits.Y n) pair vertex.spot.y.pair (number_edits (n + 1) vertices ++ more) second)
+    later pair above = grind (arith, later_value)
 
   value_edits : (from n : ℕ) (vertices : List VertexFields) (more : List Edit) → AreKnown read all from n vertices
       → AreValueEdits all more → AreValueEdits all (number_edits n vertices ++ more)
   value_edits from n [] more known are = are
   value_edits from n (vertex ∷ vertices) more known are =
-      let k = known.0 in (
-        record { pair = vertex.spot.x.pair; is_in = k.x_in; changes = ap may_change k.ten; start = refl; end = refl },
-        (
-          record {
-            pair = vertex.spot.y.pair;
-            is_in = k.y_in;
-            changes = ap may_change k.twenty;
-            start = refl;
-            end = refl;
-          },
-          value_edits vertex.spot.y.pair.end (n + 1) vertices more known.2 are,
-        ),
-      )
+      grind (arith, may_change, (value_edits vertex.spot.y.pair.end (n + 1) vertices more known.2 are))
 
   none_cover : (pair : Pair) (n : ℕ) (vertices : List VertexFields) → filter (covers pair) (rooms n vertices) ≡ []
   none_cover pair n [] = refl
@@ -236,20 +171,17 @@ module _ (read : Reading) (all : List Pair) where
         by_three (inl is) =
             let s = some_at pair all some is_in in
             let e = ap (λ (p : Pair). p.end) is in
-            let at = known.0.at in
-            grind (arith, nat_tests, s, e, at)
+            let at = known.0.at in grind (arith, nat_tests, s, e, at)
         by_three (inr (inl before)) =
             let c = (lies begin pair all last follow is_in).code in
-            let at = known.0.at in
-            grind (arith, nat_tests, c, before, at)
+            let at = known.0.at in grind (arith, nat_tests, c, before, at)
         by_three (inr (inr behind)) =
             let s = some_at pair all some is_in in
             let o = lies begin known.0.ending all last follow known.0.ending_in in
             let c = o.code in
             let v = o.value in
             let i = o.inside in
-            let at = known.0.at in
-            grind (arith, nat_tests, s, c, v, i, behind, at)
+            let at = known.0.at in grind (arith, nat_tests, s, c, v, i, behind, at)
 
     module _ (first : ℕ) (vertices : List VertexFields) (more : List Edit) (from : ℕ)
         (known : AreKnown read all from first vertices) (are : AreValueEdits all (number_edits first vertices ++ more))
@@ -267,8 +199,7 @@ module _ (read : Reading) (all : List Pair) where
             let b = without_rooms (covers pair) first vertices more (none_cover pair first vertices)
             ∙ none_covered begin last all follow pair is_in values are in
             let c = without_rooms (is_of_value pair) first vertices more
-            (none_of_value pair is_in from first vertices known) in
-            rw (a, b, c) refl
+            (none_of_value pair is_in from first vertices known) in rw (a, b, c) refl
 
         all_stand : (pairs : List Pair) (start line : ℕ) → AreTiles start line pairs last
             → ((pair : Pair) → IsIn pair pairs → IsIn pair all)
@@ -299,19 +230,13 @@ first_taken (point ∷ points) (suc b) k inside some = first_taken points b k (o
 
 run_is : (images : Runs) (count n : ℕ) → AreGoodImages images count → n < count
     → image_of images n ∷ crossings_of images n ≡ images_of images n (n + 1)
-run_is images count n good inside =
-    let rises = good.runs.rises n (n + 1) (omega arith) (omega arith) in
-    let ends = good.runs.inside (n + 1) (omega arith) in
-    first_taken images.points (run_begin images n) (run_begin images (n + 1) - run_begin images n) (omega arith)
-    (omega arith)
+run_is images count n good inside = grind (arith, first_taken)
 
 -- the images of vertices are those of a range
 spread_is : (images : Runs) (count n : ℕ) (vertices : List VertexFields) → AreGoodImages images count
     → n + length vertices ≤ count → spread images n vertices ≡ images_of images n (n + length vertices)
 spread_is images count n [] good inside = sym (no_images images n)
-spread_is images count n (vertex ∷ []) good inside =
-    ap (λ (more : List Pt). image_of images n ∷ more) (append-nil (crossings_of images n))
-    ∙ run_is images count n good (omega arith)
+spread_is images count n (vertex ∷ []) good inside = grind (arith, append-nil, run_is)
 spread_is images count n (vertex ∷ second ∷ vertices) good inside =
     let on : n + 1 + length (second ∷ vertices) ≡ n + length (vertex ∷ second ∷ vertices) = omega arith in
     ap (λ (more : List Pt). image_of images n ∷ (crossings_of images n ++ more))
@@ -328,9 +253,7 @@ counted pair number false is = absurd (cc)
 
 count_wanted : (bytes : List ℕ) (size : ℕ) (entity : Entity) (number : Pair) → count_of bytes size entity ≡ Ok number
     → wanted_at (pos 90) entity ≡ Ok number
-count_wanted bytes size entity number is =
-    let found = went _ (wanted_at (pos 90) entity) number is in
-    found.is ∙ ap Ok (counted _ number _ found.gives)
+count_wanted bytes size entity number is = grind (arith, went, counted)
 
 ninety_ten : pos 90 ≡ pos 10 → ⊥
 ninety_ten is = cc
@@ -367,10 +290,7 @@ zero_twenty is = cc
 
 numbers_no_head : (groups : List Group) → AreNumbers groups → HaveNoHead groups
 numbers_no_head [] are = tt
-numbers_no_head (group ∷ groups) are = (
-  other_code (pos 0) zero_ten zero_twenty group are.0,
-  numbers_no_head groups are.1,
-)
+numbers_no_head (group ∷ groups) are = grind (arith, other_code, zero_ten, zero_twenty, (numbers_no_head groups are.1))
 
 made_no_head : (bytes : List ℕ) (value : Pair → List ℕ) (texts : ℕ → List Group)
     → ((place : ℕ) → AreNumbers (texts place)) → (from : ℕ) (pairs : List Pair) → AreBody bytes pairs
@@ -387,10 +307,7 @@ body_taken bytes (suc n) (pair ∷ pairs) body = (body.0, (body.1.0, body_taken 
 first_behind : (read : Reading) (all : List Pair) (from n : ℕ) (vertices : List VertexFields)
     → AreKnown read all from n vertices → EndsBehind from vertices
 first_behind read all from n [] known = tt
-first_behind read all from n (vertex ∷ vertices) known =
-    let k = known.0 in
-    let w = k.low in
-    omega (arith, w, k.order, k.inside, k.upto)
+first_behind read all from n (vertex ∷ vertices) known = grind arith
 
 split_of : (read : Reading) (front pairs behind : List Pair) (head : Pair) (n : ℕ)
     → read.pairs ≡ front ++ (head ∷ (pairs ++ behind))
@@ -488,8 +405,7 @@ module _ (follow : GroupsFollow) (read : Reading) (how : How) (seed : Option Pai
           (fields_follow read.bytes entity at.set) vertices_is inside stay
           images_ok in
           let whole : made value texts entity.head.end (entity_fields entity)
-          ≡ left value texts (entity_fields entity) =
-          made_both value texts entity.head.end (entity_fields entity)
+          ≡ left value texts (entity_fields entity) = made_both value texts entity.head.end (entity_fields entity)
           ∙ ap (λ (g : List Group). g ++ left value texts (entity_fields entity)) none in
           ap (points_in how.exact) (new_fields ∙ whole)
           ∙ (all.rest texts_ok ∙ ap Some (spread_is read.images count first vertices good inside))
@@ -504,8 +420,7 @@ module _ (follow : GroupsFollow) (read : Reading) (how : How) (seed : Option Pai
             let size : length (images_of read.images first (first + length vs))
             ≡ run_begin read.images (first + length vs) - run_begin read.images first =
             length-take-le (run_begin read.images (first + length vs) - run_begin read.images first)
-            (drop (run_begin read.images first) read.images.points) (omega arith) in
-            omega (arith, few)
+            (drop (run_begin read.images first) read.images.points) (omega arith) in omega (arith, few)
 
       new_count : count_in (length points) (fields_in groups) ≡ Some tt
       new_count =
@@ -521,16 +436,14 @@ module _ (follow : GroupsFollow) (read : Reading) (how : How) (seed : Option Pai
           let found : value_wanted (pos 90) (fields_in groups) ≡ Some (digits 10 false (length points)) =
           ap (value_wanted (pos 90)) new_fields ∙ (same
           ∙ (wanted_changed value (pos 90) entity number number_wanted ∙ ap Some text)) in
-          let written = count_written (length points) few_points in
-          rw (found, written) refl
+          let written = count_written (length points) few_points in rw (found, written) refl
 
       head_stands : stand read own entity.head ≡ group_in read.bytes entity.head ∷ []
       head_stands =
           let at_number = lies entity.head.end number entity.pairs (entity_end entity) at.set.follow number_in in
           let within = ((ordered read.bytes how.exact (entity_fields entity) entity.head.end
           (past_pairs entity.head.end (entity_fields entity)) vertices
-          (fields_follow read.bytes entity at.set) vertices_is).apart first).within in
-          stand_silent read entity.head own
+          (fields_follow read.bytes entity at.set) vertices_is).apart first).within in stand_silent read entity.head own
           (silent_both entity.head (vertex_edits first vertices) tally
           (all_behind entity.head entity.head.end (past_pairs entity.head.end (entity_fields entity))
           (vertex_edits first vertices) at.set.placed (omega arith) within) (

@@ -1,7 +1,7 @@
 -- Sheets that are read have no more points than bytes, and heights within reach.
 use Rattle.std.proofs.Common.{◌≡◌, ℕ, suc, ◌+◌, ◌≤◌, ℤ, pos, List, [], ◌∷◌, ◌++◌, length, Bool, true, false, cond, sym}
-use Rattle.std.proofs.Common.{◌∙◌, subst, arith, inl, inr, Result, Ok, Err, Option, None, Some, length-append, refl}
-use Rattle.std.specs.Prelude.{◌⊎◌, codes}
+use Rattle.std.proofs.Common.{subst, arith, Result, Ok, Err, Option, None, Some, length-append, refl}
+use Rattle.std.specs.Prelude.{codes}
 use Rattle.std.proofs.lemmas.Int.{ints}
 use Rattle.std.proofs.lemmas.List.{length-map}
 use Rattle.std.proofs.lemmas.List.Elements.{All-from_recursion}
@@ -12,7 +12,6 @@ use Rattle.sheet_base.specs.declared.faults.LayerFault.TheVariants as faults
 use Rattle.sheet_base.specs.Sheets.{Contents}
 use Rattle.sheet_base.specs.Faults.{and_then}
 use Rattle.sheet_base.specs.ReadSheets.{IsSheetOf}
-use Rattle.sheet_base.specs.PointHeights.{IsHeightWithinReach}
 use Rattle.dxf_pairs.specs.declared.pairs.Pair.{Pair}
 use Rattle.dxf_pairs.specs.declared.faults.PairFault.{PairFault}
 use Rattle.dxf_pairs.specs.Pairs.{drawing}
@@ -55,24 +54,13 @@ count_both (shape ∷ shapes) more = let rest = count_both shapes more in omega 
 shapes_points : (before : Contents) (shapes : List Shape)
     → length (with_shapes before shapes).points ≡ length before.points + points_count shapes
 shapes_points before [] = omega arith
-shapes_points before (shape ∷ shapes) =
-    let rest = shapes_points (with_shape before shape) shapes in
-    let here = length-append before.points shape.points in omega (arith, rest, here)
+shapes_points before (shape ∷ shapes) = grind (arith, length-append, (shapes_points (with_shape before shape) shapes))
 
 -- ---- fields
 -- fields of two codes take two bytes
 two_fields : (from : ℕ) (a b : Pair) (fields : List Pair) (past : ℕ) (x y : ℤ) → Follow from fields past
     → IsField x a fields → IsField y b fields → (x ≡ y → ⊥) → from + 2 ≤ past
-two_fields from a b fields past x y follow a_is b_is other =
-    let p = lies from a fields past follow a_is.is_in in
-    let q = lies from b fields past follow b_is.is_in in
-    by_sides p q (one_before from a b fields past follow a_is.is_in b_is.is_in
-    (λ same. other (sym a_is.coded ∙ (same ∙ b_is.coded)))) where
-      by_sides : Lies from a past → Lies from b past → (a.end ≤ b.start) ⊎ (b.end ≤ a.start) → from + 2 ≤ past
-      by_sides p q (inl before) =
-          omega (arith, before, p.begins, p.code, p.value, p.inside, q.code, q.value, q.inside, q.ends)
-      by_sides p q (inr behind) =
-          omega (arith, behind, q.begins, q.code, q.value, q.inside, p.code, p.value, p.inside, p.ends)
+two_fields from a b fields past x y follow a_is b_is other = grind (arith, lies, one_before, Lies)
 
 -- a point at 10 and 20 takes two bytes of an entity
 spot_long : (bytes : List ℕ) (exact : Bool) (entity : Entity) (spot : PointFields) → IsLaid entity
@@ -84,20 +72,14 @@ spot_long bytes exact entity spot laid is =
 
 follow_long : (from : ℕ) (fields : List Pair) (past : ℕ) → Follow from fields past → from + length fields ≤ past
 follow_long from [] past follow = omega (arith, follow)
-follow_long from (pair ∷ fields) past follow =
-    let rest = follow_long pair.end fields past follow.4 in
-    omega (arith, rest, follow.0, follow.1, follow.2, follow.3)
+follow_long from (pair ∷ fields) past follow = grind (arith, (follow_long pair.end fields past follow.4))
 
 -- vertices in fields are no more than the fields
 vertices_few : (bytes : List ℕ) (exact : Bool) (fields : List Pair) (vertices : List VertexFields)
     → vertices_in bytes exact fields ≡ Ok vertices → length vertices ≤ length fields
 vertices_few bytes exact [] vertices is = let none : [] ≡ vertices =
     cc in subst (λ (vs : List VertexFields). length vs ≤ 0) none (omega arith)
-vertices_few bytes exact (pair ∷ []) vertices is = by_test (is_number_pair pair) is where
-  by_test : (number : Bool) → cond number (Err (faults.Count pair.line)) (Ok []) ≡ Ok vertices → length vertices ≤ 1
-  by_test true made = absurd (cc)
-  by_test false made = let none : [] ≡ vertices =
-      cc in subst (λ (vs : List VertexFields). length vs ≤ 1) none (omega arith)
+vertices_few bytes exact (pair ∷ []) vertices is = grind arith
 vertices_few bytes exact (pair ∷ next ∷ pairs) vertices is = by_tests (begins_vertex pair next) (is_number_pair pair) is
     (λ more read. vertices_few bytes exact pairs more read)
     (λ read. vertices_few bytes exact (next ∷ pairs) vertices read) where
@@ -152,9 +134,7 @@ text_short bytes exact entity laid shapes is =
     (second_spot bytes exact entity) shapes first.gives in
     let made : dot_of first.value ∷ dots_of second.value ≡ shapes = cc in
     let long = spot_long bytes exact entity first.value laid first.is in
-    let few = dots_few second.value in
-    subst (λ (ss : List Shape). entity.head.start + points_count ss ≤ entity_end entity) made
-    (omega (arith, long, few))
+    let few = dots_few second.value in grind arith
 
 line_short : (bytes : List ℕ) (exact : Bool) (seed : Option Pair) (entity : Entity) → IsLaid entity
     → IsShort entity (line_shapes bytes exact seed entity)
@@ -180,9 +160,7 @@ light_short bytes exact entity laid shapes is =
     let made : light_shape kind.value vertices.value count.value ∷ [] ≡ shapes = cc in
     let few = vertices_few bytes exact (entity_fields entity) vertices.value vertices.is in
     let long = follow_long entity.head.end (entity_fields entity) (entity_end entity) laid.fields in
-    let size = length-map vertices.value (λ (vertex : VertexFields). point_of vertex.spot) in
-    subst (λ (ss : List Shape). entity.head.start + points_count ss ≤ entity_end entity) made
-    (omega (arith, few, long, size, laid.forth))
+    let size = length-map vertices.value (λ (vertex : VertexFields). point_of vertex.spot) in grind arith
 
 shapes_short : (bytes : List ℕ) (how : How) (seed : Option Pair) (entity : Entity) → IsLaid entity
     → IsShort entity (shapes_of bytes how seed entity)
@@ -237,11 +215,8 @@ vertex_long bytes exact seed entity vertex laid is =
 all_few : (bytes : List ℕ) (how : How) (seed : Option Pair) (spot : WalkPlace) (entity : Entity) (here : Step)
     → IsLaid entity → step bytes how seed spot entity ≡ Ok here → IsFew entity (pending spot) here
 all_few bytes how seed free entity here laid is = free_few bytes how seed entity here laid is
-all_few bytes how seed staying entity here laid is = by_step (kept_step bytes how seed entity here is) where
-  by_step : KeptStep bytes how seed entity here → IsFew entity 0 here
-  by_step (kept_vertex vertex) = subst (IsFew entity 0) (sym vertex.here_is) (omega (arith, laid.order))
-  by_step (kept_end end) = subst (IsFew entity 0) (sym end.here_is) (omega (arith, laid.order))
-  by_step (as_free other) = free_few bytes how seed entity here laid other.other
+all_few bytes how seed staying entity here laid is =
+    grind (arith, kept_step, KeptStep, kept_vertex, kept_end, as_free, free_few)
 all_few bytes how seed (reading kind vertices) entity here laid is =
     by_step (reading_step bytes how seed kind vertices entity here is) where
       by_step : ReadingStep bytes how seed kind vertices entity here → IsFew entity (length vertices) here
@@ -249,24 +224,18 @@ all_few bytes how seed (reading kind vertices) entity here laid is =
           let long = vertex_long bytes _ seed entity _ laid vertex.vertex_is in
           let more = length-append vertices (vertex.vertex ∷ []) in
           subst (IsFew entity (length vertices)) (sym vertex.here_is) (omega (arith, long, more))
-      by_step (the_end end) =
-          let size = length-map vertices (λ (vertex : VertexFields). point_of vertex.spot) in
-          subst (IsFew entity (length vertices)) (sym end.here_is) (omega (arith, size, laid.order))
+      by_step (the_end end) = grind (arith, length-map)
 
 -- all entities between two places have no more points, with those that are pending, than there are bytes
 walk_few : (bytes : List ℕ) (how : How) (seed : Option Pair) (entities : List Entity) (spot : WalkPlace)
     (from past : ℕ) (shapes : List Shape) → AreSpread from entities past
     → walk_of bytes how seed spot entities ≡ Ok shapes → from + points_count shapes ≤ past + pending spot
-walk_few bytes how seed [] spot from past shapes spread is =
-    subst (λ (ss : List Shape). from + points_count ss ≤ past + pending spot) (sym (end_is spot shapes is))
-    (omega (arith, spread))
+walk_few bytes how seed [] spot from past shapes spread is = grind (arith, end_is)
 walk_few bytes how seed (entity ∷ entities) spot from past shapes spread is =
     let w = walked_on bytes how seed spot entity entities shapes is in
     let here = all_few bytes how seed spot entity w.here spread.1 w.step_is in
     let later = walk_few bytes how seed entities w.here.next (entity_end entity) past w.more spread.2 w.more_is in
-    let both = count_both w.here.shapes w.more in
-    subst (λ (ss : List Shape). from + points_count ss ≤ past + pending spot) (sym w.shapes_are)
-    (omega (arith, spread.0, here, later, both))
+    let both = count_both w.here.shapes w.more in grind arith
 
 -- ---- what is read of a drawing is a sheet: it has no more points than the drawing has bytes, a height or none for each
 -- point, and its edits are in order.
@@ -285,15 +254,7 @@ by_pairs bytes how pairs sheet tile pairs_are is =
           let few = walk_few bytes how seed (entities_of bytes pairs) free 0 (length bytes) shapes
           (entities_spread bytes pairs (length bytes) (pairs_follow bytes pairs tile)) walk in
           let count = shapes_points (contents_of_seed seed) shapes in
-          let same : sheet ≡ walked_sheet_of seed shapes = cc in
-          subst (λ (s : Contents). IsSheetOf bytes s) (sym same) (record {
-            tiled = whole.0;
-            points = omega (arith, few, count);
-            one_height_each = whole.2.each;
-            heights_in_reach = All-from_recursion IsHeightWithinReach (with_shapes (contents_of_seed seed) shapes).heights
-                whole.2.reached;
-            edits = whole.1;
-          })
+          let same : sheet ≡ walked_sheet_of seed shapes = cc in grind (arith, All-from_recursion)
       by_read (Err fault) walk made = absurd (cc)
 
 pub read_is_sheet : PairsTile → (how : How) (bytes : List ℕ) (sheet : Contents)

@@ -31,8 +31,7 @@ use Rattle.dxf_entities.proofs.GroupShapes.{entity_told, upright_told, left_out 
 use Rattle.dxf_copies.proofs.GroupDrawings.{IsReadSo, alone, Spot, Turn, turn_of, some_turn, other_turn, stays_turn}
 use Rattle.dxf_copies.proofs.GroupDrawings.{opened, polyline_turn, alone_turn, turn_by_kind, free_turn, kept_turn}
 use Rattle.dxf_copies.proofs.GroupDrawings.{open_line, open_turn, turn, last_turn, in_front, walk, entities_are}
-use Rattle.dxf_copies.proofs.GroupDrawings.{seeded_told, outlines_of}
-use Rattle.dxf_copies.proofs.GroupDrawings.{kept}
+use Rattle.dxf_copies.proofs.GroupDrawings.{seeded_told, outlines_of, kept}
 
 -- ---- the steps of a walk by their kinds
 -- an entity that is not on paper
@@ -96,16 +95,14 @@ kinds_step bytes how seed entity here off is =
     by_tests (is_of_kind bytes (codes "POLYLINE") entity) (are_read_alone bytes entity) how.drop_other refl refl refl is
   where
     by_tests : (polyline lone drop : Bool) → is_of_kind bytes (codes "POLYLINE") entity ≡ polyline
-        → are_read_alone bytes entity ≡ lone → how.drop_other ≡ drop
-        → cond polyline (polyline_step bytes entity)
+        → are_read_alone bytes entity ≡ lone → how.drop_other ≡ drop → cond polyline (polyline_step bytes entity)
         (cond lone (alone_step bytes how seed entity)
         (cond drop (Ok (shapes_read (dropped entity ∷ []))) (Err (faults.Entity entity.head.line)))) ≡ Ok here
         → FreeStep bytes how seed entity here
     by_tests true lone drop polyline_is lone_is drop_is made =
         let flat = went _ (upright bytes entity) here made in
         let found = went _ (kind_of bytes entity) here flat.gives in
-        let same : here ≡ record { shapes = []; next = reading found.value [] } = cc in
-        opens (record {
+        let same : here ≡ record { shapes = []; next = reading found.value [] } = cc in opens (record {
           off = off;
           polyline = polyline_is;
           flat = unit_is _ _ flat.is;
@@ -116,8 +113,7 @@ kinds_step bytes how seed entity here off is =
     by_tests false true drop polyline_is lone_is drop_is made =
         let flat = went _ (upright bytes entity) here made in
         let found = went _ (shapes_of bytes how seed entity) here flat.gives in
-        let same : here ≡ shapes_read found.value = cc in
-        by_itself (record {
+        let same : here ≡ shapes_read found.value = cc in by_itself (record {
           shapes = found.value;
           read = record {
             goes_on = off.goes_on;
@@ -182,8 +178,7 @@ pub kept_step : (bytes : List ℕ) (how : How) (seed : Option Pair) (entity : En
 kept_step bytes how seed entity here is = by_tests (is_of_kind bytes (codes "VERTEX") entity)
     (is_of_kind bytes (codes "SEQEND") entity) refl refl is where
       by_tests : (vertex end : Bool) → is_of_kind bytes (codes "VERTEX") entity ≡ vertex
-          → is_of_kind bytes (codes "SEQEND") entity ≡ end
-          → cond vertex (Ok (record { shapes = []; next = staying }))
+          → is_of_kind bytes (codes "SEQEND") entity ≡ end → cond vertex (Ok (record { shapes = []; next = staying }))
           (cond end (Ok (shapes_read [])) (step_free bytes how seed entity)) ≡ Ok here
           → KeptStep bytes how seed entity here
       by_tests true end vertex_is end_is made = kept_vertex (record { is_vertex = vertex_is; here_is = cc })
@@ -218,8 +213,7 @@ pub reading_step : (bytes : List ℕ) (how : How) (seed : Option Pair) (kind : P
 reading_step bytes how seed kind vertices entity here is =
     by_test (is_of_kind bytes (codes "VERTEX") entity) (is_of_kind bytes (codes "SEQEND") entity) refl refl is where
       by_test : (vertex end : Bool) → is_of_kind bytes (codes "VERTEX") entity ≡ vertex
-          → is_of_kind bytes (codes "SEQEND") entity ≡ end
-          → cond vertex (and_then (λ (v : VertexFields). Ok
+          → is_of_kind bytes (codes "SEQEND") entity ≡ end → cond vertex (and_then (λ (v : VertexFields). Ok
           (record { shapes = []; next = reading kind (vertices ++ v ∷ []) }))
           (entity_vertex bytes how.exact seed entity))
           (cond end (Ok (shapes_read (heavy_shape kind vertices ∷ []))) (Err (faults.Count entity.head.line))) ≡ Ok here
@@ -329,8 +323,7 @@ heavy_told kind vertices = ap (λ (k : Option PathKind). flat_outline k (spots_o
     (kind_with_told kind vertices)
 
 open_told : (bytes : List ℕ) (how : How) (seed : Option Pair) (kind : PathKind) (vertices : List VertexFields)
-    (entity : Entity)
-    → told turn_told (step_reading bytes how seed kind vertices entity)
+    (entity : Entity) → told turn_told (step_reading bytes how seed kind vertices entity)
     ≡ open_turn how (is_seeded seed) kind (spots_of vertices) (entity_told bytes entity)
 open_told bytes how seed kind vertices entity =
     either_told turn_told (is_of_kind bytes (codes "VERTEX") entity) _ _ _ _ (chain spot_point turn_told _ _

@@ -21,8 +21,7 @@ use Rattle.dxf_layer.specs.InsideWalks.{WalkPlace, free, staying, reading, Step,
 use Rattle.dxf_entities.proofs.Members.{went}
 use Rattle.dxf_entities.proofs.GroupShapes.{next, told, Outline, is_seeded, Told, entity_told, has_kind}
 use Rattle.dxf_copies.proofs.GroupDrawings.{Spot, Turn, free_turn, alone, open_line, in_front, walk, turn, AreBack}
-use Rattle.dxf_copies.proofs.GroupDrawings.{none_back, groups_told, AreOf, AreWholeTold, IsWritten, none_in_front}
-use Rattle.dxf_copies.proofs.GroupDrawings.{kept}
+use Rattle.dxf_copies.proofs.GroupDrawings.{none_back, groups_told, AreOf, AreWholeTold, IsWritten, none_in_front, kept}
 use Rattle.dxf_layer.proofs.StepGroups.{turn_told, step_told, FreeStep, at_end, on_paper, opens, by_itself, left_out}
 use Rattle.dxf_layer.proofs.StepGroups.{free_step, KeptStep, kept_vertex, kept_end, as_free, kept_step, dropped}
 use Rattle.dxf_layer.proofs.StepGroups.{ReadingStep, one_vertex, the_end, reading_step}
@@ -50,13 +49,7 @@ pub record StepWritten (head : Group) (how : How) (seeded : Bool) (images : Runs
 -- a value of one kind is none of another
 pub other_value : (value : List ℕ) (f : List ℕ → Bool) (kind : List ℕ) → f value ≡ true → f kind ≡ false
     → bytes_eq value kind ≡ false
-other_value value f kind is off = by_test (bytes_eq value kind) refl where
-  by_test : (same : Bool) → bytes_eq value kind ≡ same → same ≡ false
-  by_test false same = refl
-  by_test true same =
-      let equal : value ≡ kind = (bytes_eq-Decides value kind).0 same in
-      let both : true ≡ false = sym is ∙ (ap f equal ∙ off) in
-      absurd (cc)
+other_value value f kind is off = grind (arith, bytes_eq, bytes_eq-Decides)
 
 abbrev alone_value : List ℕ → Bool
 alone_value value =
@@ -103,8 +96,7 @@ lifted head how seeded images first wanted groups no_vertex no_end written =
           }
       by_entities (entity ∷ entities) are whole heads walks =
           let off : has_kind (codes "VERTEX") entity ≡ false =
-          ap (λ (g : Group). bytes_eq g.value (codes "VERTEX")) heads.0
-          ∙ no_vertex in
+          ap (λ (g : Group). bytes_eq g.value (codes "VERTEX")) heads.0 ∙ no_vertex in
           let off_too : has_kind (codes "SEQEND") entity ≡ false =
           ap (λ (g : Group). bytes_eq g.value (codes "SEQEND")) heads.0 ∙ no_end in
           record {
@@ -222,8 +214,7 @@ module _ (read : Reading) (how : How) (seed : Option Pair) (count : ℕ) (follow
         let off_too = other_value (value_in read.bytes entity.head) alone_value (codes "SEQEND") lone.read.alone refl in
         let numbered_too = subst (λ (h : Step). IsNumbered read count path first h.shapes) lone.here_is numbered in
         let written = alone_case read how seed count follow good lights entity path first at lone.shapes lone.read
-        numbered_too in
-        subst (Goal spot free) (sym lone.here_is)
+        numbered_too in subst (Goal spot free) (sym lone.here_is)
         (by_near (λ (s : Spot). Goal s free (shapes_read lone.shapes))
         (record { to = alone; near = inl refl; written = written })
         (lifted (group_in read.bytes entity.head) how (is_seeded seed) read.images (points_past first lone.shapes)
@@ -264,17 +255,7 @@ module _ (read : Reading) (how : How) (seed : Option Pair) (count : ℕ) (follow
 
         by_step : ReadingStep read.bytes how seed kind vertices entity here
             → Goal (imaged_spot read.images first (reading kind vertices)) (reading kind vertices) here
-        by_step (the_end end) =
-            subst (Goal (imaged_spot read.images first (reading kind vertices)) (reading kind vertices))
-            (sym end.here_is)
-            (record {
-              to = alone;
-              near = inl refl;
-              written =
-                  end_written read how seed entity kind vertices count first at.set at.goes_on end.no_vertex end.is_end
-                  good
-                  inside;
-            })
+        by_step (the_end end) = grind (arith, imaged_spot, alone, end_written)
         by_step (one_vertex vertex) =
             let own = went _ (handle seed entity) _ vertex.vertex_is in
             let spot = went _ (spot_at read.bytes how.exact (pos 10) (pos 20) entity) _ own.gives in

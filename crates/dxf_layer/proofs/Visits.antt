@@ -1,5 +1,5 @@
 -- The entities of a drawing, read so far.
-use Rattle.std.proofs.Common.{◌≡◌, ℕ, ◌+◌, ◌*◌, ◌≤◌, ◌<◌, List, [], ◌∷◌, ◌++◌, length, drop, get_or, Bool, true, false}
+use Rattle.std.proofs.Common.{◌≡◌, ℕ, ◌+◌, ◌*◌, ◌≤◌, ◌<◌, List, [], ◌∷◌, ◌++◌, length, drop, get_or, true}
 use Rattle.std.proofs.Common.{refl, ap, sym, ◌∙◌, subst, arith, Result, Ok, Err, Option}
 use Rattle.std.specs.Prelude.{OnOk}
 use Rattle.std.proofs.lemmas.List.{append_assoc, length-drop}
@@ -59,17 +59,10 @@ onward bytes how seed section pairs here = and_then (λ (step : Step). behind_sh
     (walk_of bytes how seed step.next (entities_from bytes section pairs))) here
 
 visit_goes : (bytes : List ℕ) (how : How) (seed : Option Pair) (section : Where) (spot : WalkPlace) (head : Pair)
-    (pairs : List Pair)
-    → walk_of bytes how seed spot (entities_from bytes section (head ∷ pairs))
+    (pairs : List Pair) → walk_of bytes how seed spot (entities_from bytes section (head ∷ pairs))
     ≡ onward bytes how seed (section_behind bytes section head) pairs
     (visit_of bytes how seed section spot (head ∷ pairs))
-visit_goes bytes how seed section spot head pairs = by_test (begins_entity section head) refl where
-  by_test : (begins : Bool) → begins_entity section head ≡ begins
-      → walk_of bytes how seed spot (entities_from bytes section (head ∷ pairs))
-      ≡ onward bytes how seed (section_behind bytes section head) pairs
-      (visit_of bytes how seed section spot (head ∷ pairs))
-  by_test true is = rw is refl
-  by_test false is = rw is (sym (none_done _))
+visit_goes bytes how seed section spot head pairs = grind (arith, none_done)
 
 more_done : (done here : List Shape) (r : Result (List Shape) LayerFault)
     → behind_shapes done (behind_shapes here r) ≡ behind_shapes (done ++ here) r
@@ -127,13 +120,7 @@ pub walk_refused : (bytes : List ℕ) (how : How) (seed : Option Pair) (pairs : 
     → visit_of bytes how seed section so_far.spot (drop number pairs) ≡ Err fault
     → walk_of bytes how seed free (entities_of bytes pairs) ≡ Err fault
 walk_refused bytes how seed pairs section place number before now head fault so_far split refused =
-    let here : visit_of bytes how seed section so_far.spot (head ∷ drop (number + 1) pairs) ≡ Err fault =
-    ap (visit_of bytes how seed section so_far.spot) (sym split) ∙ refused in
-    let left : walk_of bytes how seed so_far.spot (entities_from bytes section (drop number pairs)) ≡ Err fault =
-    ap (λ rest. walk_of bytes how seed so_far.spot (entities_from bytes section rest)) split ∙ (visit_goes bytes how seed
-    section _ head (drop (number + 1) pairs) ∙ ap (onward bytes how seed (section_behind bytes section head)
-    (drop (number + 1) pairs)) here) in
-    so_far.whole ∙ ap (behind_shapes so_far.shapes) left
+    grind (arith, visit_goes)
 
 no_room : (section : Where) (head : Pair) (pairs : List Pair) → begins_entity section head ≡ true
     → room_before (head ∷ pairs) ≡ 0

@@ -26,9 +26,7 @@ pub copies_behind : (point : ℕ) (done : List VertexFields) (vertex : VertexFie
     → copy_edits point (done ++ vertex ∷ []) ≡ copy_edits point done
     ++ record { start = vertex.start; end = vertex.past; what = OfVertex (point + length done) } ∷ []
 copies_behind point [] vertex = let at : point + 0 ≡ point = omega arith in rw at refl
-copies_behind point (first ∷ done) vertex =
-    let at : point + length (first ∷ done) ≡ (point + 1) + length done = omega arith in
-    rw (at, copies_behind (point + 1) done vertex) refl
+copies_behind point (first ∷ done) vertex = grind (arith, (copies_behind (point + 1) done vertex))
 
 pub own_behind : (before : Contents) (done : List VertexFields) (vertex : VertexFields)
     → with_own_vertex (with_shape before (own_shape None done)) vertex
@@ -41,14 +39,11 @@ own_behind before done vertex =
       map-append point_in done (vertex ∷ []),
       append_assoc before.points (map point_in done) (point_in vertex ∷ []),
     ) refl in
-    let edits : (before.edits ++ copy_edits n done)
-    ++ record {
+    let edits : (before.edits ++ copy_edits n done) ++ record {
       start = vertex.start;
       end = vertex.past;
       what = OfVertex (length (before.points ++ map point_in done));
-    } ∷ [] ≡ before.edits
-    ++ copy_edits n (done ++ vertex ∷ []) =
-    rw (
+    } ∷ [] ≡ before.edits ++ copy_edits n (done ++ vertex ∷ []) = rw (
       number,
       copies_behind n done vertex,
       append_assoc before.edits (copy_edits n done)

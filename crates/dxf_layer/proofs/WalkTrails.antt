@@ -3,7 +3,6 @@ use Rattle.std.proofs.Common.{◌≡◌, ℕ, ◌+◌, Bool, true, false, cond, 
 use Rattle.std.proofs.Common.{length, Option, Result, Ok, Err, codes, ◌<◌, ◌≤◌, filter, arith, inl, inr}
 use Rattle.std.proofs.lemmas.List.{append-nil, append_assoc}
 use Rattle.std.proofs.lemmas.List.Elements.{filter-append}
-use Rattle.std.proofs.lemmas.Bool.Decides.{nat_tests}
 use Rattle.sheet_base.specs.declared.edits.Edit.{Edit}
 use Rattle.sheet_base.specs.declared.edits.What.TheVariants as edits
 use Rattle.sheet_base.specs.declared.flags.How.{How}
@@ -11,13 +10,12 @@ use Rattle.sheet_base.specs.declared.paths.PathKind.{PathKind}
 use Rattle.sheet_base.specs.declared.faults.LayerFault.{LayerFault}
 use Rattle.sheet_base.specs.declared.faults.LayerFault.TheVariants as faults
 use Rattle.dxf_pairs.specs.declared.pairs.Pair.{Pair}
-use Rattle.dxf_pairs.specs.Groups.{Group, groups_of}
 use Rattle.dxf_entities.specs.declared.drawing.VertexFields.{VertexFields}
 use Rattle.dxf_entities.specs.Entities.{Entity, is_of_kind, entity_end}
 use Rattle.dxf_entities.specs.Shapes.{Shape}
 use Rattle.dxf_entities.specs.Polylines.{copy_edits}
 use Rattle.dxf_copies.specs.PairGroups.{begins_at, covers, is_of_value}
-use Rattle.dxf_copies.specs.Rendering.{Reading, text_of}
+use Rattle.dxf_copies.specs.Rendering.{Reading}
 use Rattle.dxf_layer.specs.InsideWalks.{WalkPlace, free, staying, reading, Step, step_free, step_staying, step, walk_of}
 use Rattle.dxf_entities.proofs.WholeShapes.{edits_with, paths_past, points_past, edits_both, AreWithin, StandApart}
 use Rattle.dxf_entities.proofs.WholeShapes.{wider, no_edits, both_apart}
@@ -67,9 +65,7 @@ pub trail_on : (bytes : List ℕ) (how : How) (seed : Option Pair) (path first :
     (entities : List Entity) (here : Step) → step bytes how seed place entity ≡ Ok here
     → trail bytes how seed path first place (entity ∷ entities) ≡ own_edits path first place entity here
     ++ trail bytes how seed (paths_past path first here.shapes) (points_past first here.shapes) here.next entities
-trail_on bytes how seed path first place entity entities here is =
-    ap (edits_by (λ (h : Step). own_edits path first place entity h
-    ++ trail bytes how seed (paths_past path first h.shapes) (points_past first h.shapes) h.next entities)) is
+trail_on bytes how seed path first place entity entities here is = grind (arith, paths_past, points_past)
 
 -- the edits of what is read of entities are those of the vertices so far and those of the trail
 pub trail_edits : (bytes : List ℕ) (how : How) (seed : Option Pair) (path first : ℕ) (place : WalkPlace)
@@ -81,13 +77,11 @@ trail_edits bytes how seed path first (reading kind vertices) [] shapes is = abs
 trail_edits bytes how seed path first place (entity ∷ entities) shapes is =
     let w = walked_on bytes how seed place entity entities shapes is in
     let rest = trail_edits bytes how seed (paths_past path first w.here.shapes) (points_past first w.here.shapes)
-    w.here.next entities w.more w.more_is in
-    ap (edits_with path first) w.shapes_are
+    w.here.next entities w.more w.more_is in ap (edits_with path first) w.shapes_are
     ∙ (edits_both path first w.here.shapes w.more
     ∙ (ap (λ (e : List Edit). edits_with path first w.here.shapes ++ e) rest
     ∙ (by_place place w.here w.step_is (trail bytes how seed (paths_past path first w.here.shapes)
-    (points_past first w.here.shapes) w.here.next entities)
-    ∙ ap (λ (e : List Edit). pending first place ++ e)
+    (points_past first w.here.shapes) w.here.next entities) ∙ ap (λ (e : List Edit). pending first place ++ e)
     (sym (trail_on bytes how seed path first place entity entities w.here w.step_is)))))
   where
     stays_pending : (polyline : Bool) (n : ℕ) → pending n (cond polyline staying free) ≡ []
@@ -105,11 +99,7 @@ trail_edits bytes how seed path first place (entity ∷ entities) shapes is =
       by_step (left_out left) = ap (λ (h : Step). pending n h.next) left.here_is
 
     kept_pending : (here : Step) → step_staying bytes how seed entity ≡ Ok here → (n : ℕ) → pending n here.next ≡ []
-    kept_pending here is n = by_step (kept_step bytes how seed entity here is) where
-      by_step : KeptStep bytes how seed entity here → pending n here.next ≡ []
-      by_step (kept_vertex vertex) = ap (λ (h : Step). pending n h.next) vertex.here_is
-      by_step (kept_end end) = ap (λ (h : Step). pending n h.next) end.here_is
-      by_step (as_free other) = free_pending here other.other n
+    kept_pending here is n = grind (arith, kept_step, KeptStep, kept_vertex, kept_end, as_free, free_pending)
 
     after_reading : (kind : PathKind) (vertices : List VertexFields) (here : Step)
         → ReadingStep bytes how seed kind vertices entity here → (more : List Edit)
@@ -118,22 +108,13 @@ trail_edits bytes how seed path first place (entity ∷ entities) shapes is =
     after_reading kind vertices here (one_vertex vertex) more =
         let at = own_vertex bytes how.exact seed entity vertex.vertex vertex.vertex_is in
         let edit : copy_edits first (vertices ++ vertex.vertex ∷ []) ≡ copy_edits first vertices
-        ++ whole_of entity (edits.Vertex (first + length vertices)) ∷ [] =
-        copies_behind first vertices vertex.vertex
+        ++ whole_of entity (edits.Vertex (first + length vertices)) ∷ [] = copies_behind first vertices vertex.vertex
         ∙ (ap (λ (n : ℕ). copy_edits first vertices
         ++ record { start = n; end = vertex.vertex.past; what = edits.Vertex (first + length vertices) } ∷ []) at.0
         ∙ ap (λ (n : ℕ). copy_edits first vertices
         ++ record { start = entity.head.start; end = n; what = edits.Vertex (first + length vertices) } ∷ []) at.1) in
-        subst (λ (h : Step). edits_with path first h.shapes ++ (pending (points_past first h.shapes) h.next ++ more)
-        ≡ copy_edits first vertices ++ (reading_edits entity (first + length vertices) h.next ++ more))
-        (sym vertex.here_is)
-        (ap (λ (e : List Edit). e ++ more) edit ∙ append_assoc (copy_edits first vertices)
-        (whole_of entity (edits.Vertex (first + length vertices)) ∷ []) more)
-    after_reading kind vertices here (the_end end) more =
-        subst (λ (h : Step). edits_with path first h.shapes ++ (pending (points_past first h.shapes) h.next ++ more)
-        ≡ copy_edits first vertices ++ (reading_edits entity (first + length vertices) h.next ++ more))
-        (sym end.here_is)
-        (ap (λ (e : List Edit). e ++ more) (append-nil (copy_edits first vertices)))
+        grind (arith, edits_with, points_past, append_assoc, whole_of)
+    after_reading kind vertices here (the_end end) more = grind (arith, edits_with, points_past, append-nil)
 
     by_place : (place : WalkPlace) (here : Step) → step bytes how seed place entity ≡ Ok here → (more : List Edit)
         → edits_with path first here.shapes ++ (pending (points_past first here.shapes) here.next ++ more)
@@ -169,13 +150,7 @@ own_apart bytes how seed path first staying entity here laid is =
           (entity_end entity)) (sym end.here_is) (no_edits _ _)
       by_step (as_free other) = free_apart bytes how seed path first entity here laid other.other
 own_apart bytes how seed path first (reading kind vertices) entity here laid is =
-    by_step (reading_step bytes how seed kind vertices entity here is) where
-      by_step : ReadingStep bytes how seed kind vertices entity here
-          → StandApart entity.head.start (reading_edits entity (first + length vertices) here.next) (entity_end entity)
-      by_step (one_vertex vertex) = subst (λ (h : Step). StandApart entity.head.start (reading_edits entity
-          (first + length vertices) h.next) (entity_end entity)) (sym vertex.here_is) (whole_edit _ entity laid)
-      by_step (the_end end) = subst (λ (h : Step). StandApart entity.head.start (reading_edits entity
-          (first + length vertices) h.next) (entity_end entity)) (sym end.here_is) (no_edits _ _)
+    grind (arith, reading_step, ReadingStep, StandApart, one_vertex, whole_edit, the_end, no_edits)
 
 spread_order : (from past : ℕ) (entities : List Entity) → AreSpread from entities past → from ≤ past
 spread_order from past [] spread = spread
@@ -208,26 +183,18 @@ trail_apart bytes how seed path first place (entity ∷ entities) shapes from pa
 no_cover : (pair : Pair) (low high : ℕ) (own : List Edit) → AreWithin low own high → high ≤ pair.start
     → filter (covers pair) own ≡ []
 no_cover pair low high [] within before = refl
-no_cover pair low high (edit ∷ own) within before =
-    let e = within.2 in
-    let off : covers pair edit ≡ false = grind (arith, nat_tests, e, before) in
-    rw off (no_cover pair low high own within.3 before)
+no_cover pair low high (edit ∷ own) within before = grind (arith, (no_cover pair low high own within.3 before))
 
 no_value : (pair : Pair) (low high : ℕ) (own : List Edit) → AreWithin low own high → high ≤ pair.start
     → pair.start < pair.value → filter (is_of_value pair) own ≡ []
 no_value pair low high [] within before code = refl
 no_value pair low high (edit ∷ own) within before code =
-    let e = within.2 in
-    let s = within.1 in
-    let off : is_of_value pair edit ≡ false = grind (arith, nat_tests, e, s, before, code) in
-    rw off (no_value pair low high own within.3 before code)
+    grind (arith, (no_value pair low high own within.3 before code))
 
 texts_both : (read : Reading) (first second : List Edit)
     → texts_in read (first ++ second) ≡ texts_in read first ++ texts_in read second
 texts_both read [] second = refl
-texts_both read (edit ∷ first) second = ap (λ (g : List Group). groups_of (text_of read edit) ++ g)
-    (texts_both read first second) ∙ sym (append_assoc (groups_of (text_of read edit)) (texts_in read first)
-    (texts_in read second))
+texts_both read (edit ∷ first) second = grind (arith, append_assoc, texts_in, (texts_both read first second))
 
 -- edits that a test takes none of may be among others
 none_taken : (p : Edit → Bool) (extra own rest : List Edit) → filter p own ≡ []
@@ -240,39 +207,16 @@ pub behind_first : (read : Reading) (pair : Pair) (extra own rest : List Edit) (
     → filter (begins_at pair) extra ≡ [] → AreWithin low own high → high ≤ pair.start → pair.start < pair.value
     → stand read (extra ++ (own ++ rest)) pair ≡ texts_at read own pair.start ++ stand read (extra ++ rest) pair
 behind_first read pair extra own rest low high silent within before code =
-    let covering = no_cover pair low high own within before in
-    let of_value = no_value pair low high own within before code in
-    rw (
-      filter-append (begins_at pair) extra (own ++ rest),
-      filter-append (begins_at pair) own rest,
-      filter-append (begins_at pair) extra rest,
-      silent,
-      none_taken (covers pair) extra own rest covering,
-      none_taken (is_of_value pair) extra own rest of_value,
-      texts_both read (filter (begins_at pair) own) (filter (begins_at pair) rest),
-    )
-    (append_assoc (texts_in read (filter (begins_at pair) own)) (texts_in read (filter (begins_at pair) rest))
-    (itself_in read pair (filter (covers pair) (extra ++ rest)) (filter (is_of_value pair) (extra ++ rest))))
+    grind (arith, no_cover, no_value, filter-append, none_taken, texts_both, append_assoc, texts_in, itself_in)
 
 none_begin : (pair : Pair) (low high : ℕ) (own : List Edit) → AreWithin low own high → high < pair.start
     → filter (begins_at pair) own ≡ []
 none_begin pair low high [] within before = refl
-none_begin pair low high (edit ∷ own) within before =
-    let e = within.2 in
-    let s = within.1 in
-    let off : begins_at pair edit ≡ false = grind (arith, nat_tests, e, s, before) in
-    rw off (none_begin pair low high own within.3 before)
+none_begin pair low high (edit ∷ own) within before = grind (arith, (none_begin pair low high own within.3 before))
 
 -- at the pairs after that one
 pub behind_later : (read : Reading) (pair : Pair) (extra own rest : List Edit) (low high : ℕ) → AreWithin low own high
     → high < pair.start → pair.start < pair.value
     → stand read (extra ++ (own ++ rest)) pair ≡ stand read (extra ++ rest) pair
 behind_later read pair extra own rest low high within before code =
-    let begins = none_begin pair low high own within before in
-    let covering = no_cover pair low high own within (omega arith) in
-    let of_value = no_value pair low high own within (omega arith) code in
-    rw (
-      none_taken (begins_at pair) extra own rest begins,
-      none_taken (covers pair) extra own rest covering,
-      none_taken (is_of_value pair) extra own rest of_value,
-    ) refl
+    grind (arith, none_begin, no_cover, no_value, none_taken)

@@ -108,8 +108,7 @@ no_polyline : (bytes : List ℕ) (entity : Entity) → is_sequence_end bytes ent
     → is_polyline bytes entity ≡ false
 no_polyline bytes entity last =
     let value : value_in bytes entity.head ≡ codes "SEQEND" =
-    (bytes_eq-Decides (value_in bytes entity.head) (codes "SEQEND")).0 last in
-    rw value refl
+    (bytes_eq-Decides (value_in bytes entity.head) (codes "SEQEND")).0 last in rw value refl
 
 -- ---- the first entity is alone, or begins a polyline
 free_turn : (bytes : List ℕ) (how : How) (seed end : Option Pair) (entity : Entity) (entities : List Entity)
@@ -331,8 +330,7 @@ heads_kept bytes (pair ∷ pairs) =
 
 -- ---- a section ENTITIES pair by pair
 rest_ends : (bytes : List ℕ) (how : How) (seed : Option Pair) (pair : Pair) (pairs : List Pair)
-    → is_end_of_section bytes pair ≡ true
-    → walk_of bytes how seed free (entities_from bytes Outside pairs)
+    → is_end_of_section bytes pair ≡ true → walk_of bytes how seed free (entities_from bytes Outside pairs)
     ≡ sections_read bytes how seed (sections_from bytes false pairs) → HasRest bytes how seed (pair ∷ pairs)
 rest_ends bytes how seed pair pairs ends outside =
     let head : is_coded (pos 0) pair ≡ true = end_is_head bytes pair ends in
@@ -390,8 +388,7 @@ entities_begun bytes how seed pairs has = ap (walk_of bytes how seed free) has.e
     (entities_in (take_while (is_inside bytes) pairs)) has.inside free
 
 begun_step : (bytes : List ℕ) (how : How) (seed : Option Pair) (name : Pair) (pairs : List Pair)
-    → IsWalkedSo bytes how seed pairs
-    → walk_of bytes how seed free (entities_from bytes Begun (name ∷ pairs))
+    → IsWalkedSo bytes how seed pairs → walk_of bytes how seed free (entities_from bytes Begun (name ∷ pairs))
     ≡ sections_read bytes how seed (named_sections bytes (name ∷ pairs))
 begun_step bytes how seed name pairs rest =
     by_code (is_coded (pos 2) name) (bytes_eq (value_in bytes name) (codes "ENTITIES"))
@@ -564,5 +561,4 @@ pub fault_on : {T : Type 0} (found : Result Contents LayerFault) (fault : LayerF
     → IsErrOf answer other → other ≢ NoMemory → found ≡ Err other
 fault_on found fault (Ok value) is read other answered memory = absurd is
 fault_on found fault (Err now) is read other answered memory =
-    let same : fault ≡ other = cc in
-    subst (λ (f : LayerFault). f ≢ NoMemory → found ≡ Err f) same read memory
+    let same : fault ≡ other = cc in subst (λ (f : LayerFault). f ≢ NoMemory → found ≡ Err f) same read memory

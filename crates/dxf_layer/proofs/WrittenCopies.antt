@@ -106,8 +106,7 @@ groups_same bytes copied (field ∷ fields) (pair ∷ pairs) front =
     let here : record { code = pair.code; value = value_of_copy bytes pair (value_for copied pair.code) }
     ≡ field_in_copy bytes copied field =
     ap (λ (v : List ℕ). record { code = pair.code; value = v }) (value_same bytes pair _) ∙ ap
-    (field_in_copy bytes copied) (sym front.0) in
-    both here rest
+    (field_in_copy bytes copied) (sym front.0) in both here rest
   where
     both : {a b : Group} {xs ys : List Group} → a ≡ b → xs ≡ ys → a ∷ xs ≡ b ∷ ys
     both h t = cc
@@ -115,28 +114,24 @@ groups_same bytes copied (field ∷ fields) (pair ∷ pairs) front =
 one_copy : GroupsFollow → (bytes : List ℕ) (entity : Entity) (copied : Copied) → IsInLines bytes entity
     → AddsAs (copy_text bytes copied entity) (groups_of_copy bytes entity copied)
 one_copy follow bytes entity copied lines =
-    let front : IsFront (entity_fields entity) entity.pairs =
-    front_taken _ _ in
+    let front : IsFront (entity_fields entity) entity.pairs = front_taken _ _ in
     subst (AddsAs (copy_text bytes copied entity)) (ap (λ (groups : List Group). group_in bytes entity.head ∷ groups)
     (groups_same bytes copied _ _ front)) (copy_added follow bytes entity copied lines)
 
 lines_are : GroupsFollow → (bytes : List ℕ) (entity : Entity) → IsInLines bytes entity
-    → (first : Bool) (next : ℕ) (images : List Position)
-    → AddsAs (line_copies bytes entity first next images)
+    → (first : Bool) (next : ℕ) (images : List Position) → AddsAs (line_copies bytes entity first next images)
     (flat_map (groups_of_copy bytes entity) (line_values first next images))
 lines_are follow bytes entity lines first next [] = none_added
 lines_are follow bytes entity lines first next (begin ∷ []) = none_added
 lines_are follow bytes entity lines first next (begin ∷ end ∷ images) =
-    let copied = line_copy begin end (new_handle first next) in
-    both_added (copy_text bytes copied entity)
+    let copied = line_copy begin end (new_handle first next) in both_added (copy_text bytes copied entity)
     (line_copies bytes entity false (handle_behind first next) (end ∷ images)) (groups_of_copy bytes entity copied)
     (flat_map (groups_of_copy bytes entity) (line_values false (handle_behind first next) (end ∷ images)))
     (one_copy follow bytes entity copied lines)
     (lines_are follow bytes entity lines false (handle_behind first next) (end ∷ images))
 
 vertices_are : GroupsFollow → (bytes : List ℕ) (entity : Entity) → IsInLines bytes entity
-    → (first : Bool) (next : ℕ) (images : List Pt)
-    → AddsAs (vertex_copies bytes entity first next images)
+    → (first : Bool) (next : ℕ) (images : List Pt) → AddsAs (vertex_copies bytes entity first next images)
     (flat_map (groups_of_copy bytes entity) (vertex_values first next images))
 vertices_are follow bytes entity lines first next [] = none_added
 vertices_are follow bytes entity lines first next (image ∷ images) =
@@ -216,8 +211,7 @@ all_vertices read past tiles exact front (first ∷ second ∷ fields) (x ∷ y 
 
 pub vertices_copy_own_fields : PairsTile → PairsAreInLines → VerticesCopyOwnFields
 vertices_copy_own_fields tile stand bytes pairs sheet images entity exact vertices pairs_are is vertices_are =
-    let (past, inside, tiles) = tile bytes pairs pairs_are in
-    of_pairs past tiles
+    let (past, inside, tiles) = tile bytes pairs pairs_are in of_pairs past tiles
   where
     read : Reading
     read = record { bytes = bytes; pairs = pairs; sheet = sheet; images = images }
@@ -246,37 +240,31 @@ vertices_copy_own_fields tile stand bytes pairs sheet images entity exact vertic
 no_line : (bytes : List ℕ) (exact : Bool) (seed : Option Pair) (pair : Pair) (ends : LineFields)
     → line_ends bytes exact seed (entity_of pair []) ≡ Ok ends → ⊥
 no_line bytes exact seed pair ends is =
-    let refused : line_ends bytes exact seed (entity_of pair []) ≡ Err (faults.Count pair.line) = refl in
-    cc
+    let refused : line_ends bytes exact seed (entity_of pair []) ≡ Err (faults.Count pair.line) = refl in cc
 
 no_vertex : (bytes : List ℕ) (exact : Bool) (seed : Option Pair) (pair : Pair) (vertex : VertexFields)
     → entity_vertex bytes exact seed (entity_of pair []) ≡ Ok vertex → ⊥
 no_vertex bytes exact seed pair vertex is =
-    let refused : entity_vertex bytes exact seed (entity_of pair []) ≡ Err (faults.Count pair.line) = refl in
-    cc
+    let refused : entity_vertex bytes exact seed (entity_of pair []) ≡ Err (faults.Count pair.line) = refl in cc
 
 no_spot : (bytes : List ℕ) (exact : Bool) (x y : ℤ) (pair : Pair) (spot : PointFields)
     → spot_at bytes exact x y (entity_of pair []) ≡ Ok spot → ⊥
 no_spot bytes exact x y pair spot is =
-    let refused : spot_at bytes exact x y (entity_of pair []) ≡ Err (faults.Count pair.line) = refl in
-    cc
+    let refused : spot_at bytes exact x y (entity_of pair []) ≡ Err (faults.Count pair.line) = refl in cc
 
 -- the vertex of an entity is its point
 own_spot : (bytes : List ℕ) (exact : Bool) (seed : Option Pair) (entity : Entity) (vertex : VertexFields)
-    → entity_vertex bytes exact seed entity ≡ Ok vertex
-    → spot_at bytes exact (pos 10) (pos 20) entity ≡ Ok vertex.spot
+    → entity_vertex bytes exact seed entity ≡ Ok vertex → spot_at bytes exact (pos 10) (pos 20) entity ≡ Ok vertex.spot
 own_spot bytes exact seed entity vertex is =
     let made : PointFields → VertexFields = λ spot. record { spot = spot; start = entity.head.start; past = entity_end entity } in
     let own = went _ (handle seed entity) vertex is in
     let spot = went _ (spot_at bytes exact (pos 10) (pos 20) entity) vertex own.gives in
     let flat = went _ (plain bytes entity) vertex spot.gives in
-    let same : made spot.value ≡ vertex = cc in
-    spot.is ∙ ap (λ (v : VertexFields). Ok v.spot) same
+    let same : made spot.value ≡ vertex = cc in spot.is ∙ ap (λ (v : VertexFields). Ok v.spot) same
 
 no_count : (bytes : List ℕ) (size : ℕ) (pair count : Pair) → count_of bytes size (entity_of pair []) ≡ Ok count → ⊥
 no_count bytes size pair count is =
-    let refused : count_of bytes size (entity_of pair []) ≡ Err (faults.Count pair.line) = refl in
-    cc
+    let refused : count_of bytes size (entity_of pair []) ≡ Err (faults.Count pair.line) = refl in cc
 
 of_drawing : (read : Reading) (entity : Entity) → IsAmong read entity → (Refused : Entity → Type 0)
     → ((pair : Pair) → Refused (entity_of pair []) → ⊥) → Refused entity → IsEntityOf read.pairs entity
@@ -300,8 +288,7 @@ point_here : (points before behind : List Pt) (point : Pt) (n : ℕ) → points 
 point_here points before behind point n are at = at_seam points before behind point no_point n are at
 
 one_behind : (points before behind : List Pt) (point : Pt) (n : ℕ) → points ≡ before ++ point ∷ behind
-    → length before ≡ n
-    → (points ≡ (before ++ point ∷ []) ++ behind) × (length (before ++ point ∷ []) ≡ n + 1)
+    → length before ≡ n → (points ≡ (before ++ point ∷ []) ++ behind) × (length (before ++ point ∷ []) ≡ n + 1)
 one_behind points before behind point n are at = (
   are ∙ sym (append_assoc before (point ∷ []) behind),
   length-append before (point ∷ []) ∙ ap (λ (k : ℕ). k + 1) at,
@@ -356,8 +343,7 @@ vertex_read bytes exact x y behind all vertex x_in y_in begins is =
     let upto = went _ (past_group bytes y.end behind) vertex north.gives in
     let made : record { spot = record { x = east.value; y = north.value }; start = x.start; past = upto.value }
     ≡ vertex = cc in
-    let both = both_true (is_coded (pos 10) x) (is_coded (pos 20) y) begins in
-    subst (AreReadOf bytes exact all) made (
+    let both = both_true (is_coded (pos 10) x) (is_coded (pos 20) y) begins in subst (AreReadOf bytes exact all) made (
       value_read bytes exact _ x all _ (record { is_in = x_in; coded = (Decides-int_eq x.code (pos 10)).0 both.0 })
           east.is,
       value_read bytes exact _ y all _ (record { is_in = y_in; coded = (Decides-int_eq y.code (pos 20)).0 both.1 })
@@ -606,8 +592,7 @@ module _ (tile : PairsTile) (stand : PairsAreInLines) (follow : GroupsFollow) (r
           fields = own_spot read.bytes how.exact seed entity own.vertex own.vertex_is;
           is = point_here read.sheet.points before rest here n are at;
         };
-      } in
-      subst (λ (vs : List VertexFields). AllByRecursion (WritesByKind read how) (copy_edits n vs)) own.are (
+      } in subst (λ (vs : List VertexFields). AllByRecursion (WritesByKind read how) (copy_edits n vs)) own.are (
         subst (λ (end : ℕ). WritesByKind read how
             (record { start = own.vertex.start; end = end; what = edits.Vertex n })) (sym place.1)
             (subst (λ (start : ℕ). WritesByKind read how

@@ -1,17 +1,13 @@
 -- The groups of the written drawing, pair by pair.
-use Rattle.std.proofs.Common.{◌≡◌, ℕ, ◌+◌, ◌*◌, ◌<◌, ℤ, pos, List, [], ◌∷◌, ◌++◌, length, Bool, true, false, cond, refl}
-use Rattle.std.proofs.Common.{ap, sym, ◌∙◌, subst, Result, Ok, Err, Option, None, Some, inl, inr, ◌==◌, ◌≤◌, ◌&&◌}
-use Rattle.std.proofs.Common.{filter, arith, find}
+use Rattle.std.proofs.Common.{◌≡◌, ℕ, ◌+◌, ◌<◌, ℤ, pos, List, [], ◌∷◌, ◌++◌, length, Bool, true, false, refl, ap, sym}
+use Rattle.std.proofs.Common.{◌∙◌, subst, Result, Ok, Err, Option, None, Some, inl, inr, ◌≤◌, arith, find}
 use Rattle.std.specs.Prelude.{⊤, codes, flat_map}
-use Rattle.std.specs.Fmt.{digits}
 use Rattle.std.specs.List.{list_any, AllByRecursion}
 use Rattle.std.proofs.lemmas.Bool.Decides.{nat_tests}
 use Rattle.std.proofs.lemmas.List.{append-nil}
-use Rattle.mm_decimal.specs.AnswerValues.{millimetres_of}
 use Rattle.sheet_base.specs.declared.edits.Edit.{Edit}
 use Rattle.sheet_base.specs.declared.edits.What.TheVariants as edits
 use Rattle.sheet_base.specs.declared.flags.How.{How}
-use Rattle.sheet_base.specs.declared.faults.LayerFault.TheVariants.{Count}
 use Rattle.sheet_base.specs.declared.faults.LayerFault.TheVariants as faults
 use Rattle.sheet_base.specs.declared.edits.What.TheVariants.{NextHandle}
 use Rattle.sheet_base.specs.Splices.{AreInOrder, splice_of, spliced_from}
@@ -25,18 +21,18 @@ use Rattle.dxf_entities.specs.declared.fields.Read.{Read}
 use Rattle.dxf_entities.specs.declared.drawing.PointFields.{PointFields}
 use Rattle.dxf_entities.specs.declared.drawing.VertexFields.{VertexFields}
 use Rattle.dxf_entities.specs.Entities.{Entity, is_coded, entity_of, has_both}
-use Rattle.dxf_entities.specs.Fields.{entity_fields, wanted_at, coordinate_from, is_exactly, equals_number}
+use Rattle.dxf_entities.specs.Fields.{entity_fields, coordinate_from}
 use Rattle.dxf_entities.specs.Shapes.{value_edit, spot_edits}
 use Rattle.dxf_entities.specs.Points.{spot_at, dot_of}
 use Rattle.dxf_entities.specs.Polylines.{count_of, copy_edits, own_vertices, vertex_edits}
 use Rattle.dxf_entities.specs.declared.section_places.Where.{Where}
 use Rattle.dxf_entities.specs.declared.section_places.Where.TheVariants.{Outside}
-use Rattle.dxf_entities.specs.SectionPlaces.{section_behind, names_seed, seed_from}
+use Rattle.dxf_entities.specs.SectionPlaces.{section_behind, seed_from}
 use Rattle.dxf_entities.specs.Handles.{is_handle}
 use Rattle.dxf_entities.specs.Seeds.{as_seed, seed_of, seed_edits}
-use Rattle.dxf_copies.specs.Rendering.{Reading, first_handle, next_behind, seed_text, text_of, text_by, drawing_text}
-use Rattle.dxf_copies.specs.PairGroups.{begins_at, covers, is_of_value, groups_for}
-use Rattle.dxf_layer.specs.Drawings.{drawing_sheet, from_pairs}
+use Rattle.dxf_copies.specs.Rendering.{Reading, seed_text, text_of, text_by, drawing_text}
+use Rattle.dxf_copies.specs.PairGroups.{covers, is_of_value, groups_for}
+use Rattle.dxf_layer.specs.Drawings.{drawing_sheet}
 use Rattle.dxf_layer.specs.ReadBack.{GroupsAreWritten}
 use Rattle.dxf_layer.specs.Copies.{WrittenIsADrawing}
 use Rattle.dxf_entities.proofs.Members.{went, IsIn, wanted_is, coordinate_is}
@@ -67,12 +63,7 @@ record IsRead (entity : Entity) (pair : Pair) : Type 0 where
 
 coordinate_read : (bytes : List ℕ) (exact : Bool) (code : ℤ) (entity : Entity) (number : Read)
     → coordinate_from bytes exact code entity ≡ Ok number → IsRead entity number.pair
-coordinate_read bytes exact code entity number is =
-    let found = went _ (wanted_at code entity) number is in
-    subst (IsRead entity) (sym (coordinate_is bytes exact _ number found.gives)) (record {
-      is_in = (wanted_is code entity _ found.is).is_in;
-      some = some_value bytes exact found.value number found.gives;
-    })
+coordinate_read bytes exact code entity number is = grind (arith, went, coordinate_is, wanted_is, some_value)
 
 spot_stands : (read : Reading) (exact : Bool) (x y : ℤ) (entity : Entity) (spot : PointFields) → IsSource read entity
     → spot_at read.bytes exact x y entity ≡ Ok spot → (n : ℕ) → StandOn read read.pairs (spot_edits n spot)
@@ -81,31 +72,12 @@ spot_stands read exact x y entity spot source is n =
     let north = went _ (coordinate_from read.bytes exact y entity) spot east.gives in
     let made : record { x = east.value; y = north.value } ≡ spot = cc in
     let first = coordinate_read _ exact x entity _ east.is in
-    let second = coordinate_read _ exact y entity _ north.is in
-    subst (λ (s : PointFields). StandOn read read.pairs (spot_edits n s)) made (
-      source.value (edits.X n) east.value.pair tt first.is_in first.some,
-      (source.value (edits.Y n) north.value.pair tt second.is_in second.some, tt),
-    )
+    let second = coordinate_read _ exact y entity _ north.is in grind (arith, StandOn)
 
 -- a value that equals a number is not empty
 count_read : (bytes : List ℕ) (number : ℕ) (entity : Entity) (pair : Pair) → count_of bytes number entity ≡ Ok pair
     → IsRead entity pair
-count_read bytes number entity pair is =
-    let found = went _ (wanted_at (pos 90) entity) pair is in
-    by_test found.value (equals_number bytes number found.value) refl found.gives (wanted_is _ entity _ found.is).is_in
-  where
-    by_test : (value : Pair) (equal : Bool) → equals_number bytes number value ≡ equal
-        → cond equal (Ok value) (Err (Count value.line)) ≡ Ok pair → IsIn value (entity_fields entity)
-        → IsRead entity pair
-    by_test value true equal made is_in =
-        let same : value ≡ pair = cc in
-        let some : value.value < value.value_end = some_between bytes value (λ none.
-        let no : equals_number bytes number value ≡ false =
-        ap (λ (text : List ℕ). is_exactly (pos (1000 * number)) (millimetres_of text)) none
-        ∙ ap (is_exactly (pos (1000 * number))) nothing_measured in
-        cc) in
-        subst (IsRead entity) same (record { is_in = is_in; some = some })
-    by_test value false equal made is_in = absurd (cc)
+count_read bytes number entity pair is = grind (arith, went, wanted_is, IsIn, some_between, nothing_measured)
 
 -- ---- the edits of all entities of a drawing are at its pairs
 -- an entity of the drawing is a source
@@ -119,8 +91,7 @@ source_among follow read past tiles lines entity among = by_behind among.behind 
       lines_behind read.bytes among.front entity.head [] (subst (λ (ps : List Pair). AreInLines read.bytes ps) are lines) in
       let last = or_right (has_both read.bytes (pos 0) (codes "ENDSEC") entity.head)
       (has_both read.bytes (pos 0) (codes "EOF") entity.head) ends.last in
-      let goes_on = among.goes_on in
-      absurd (cc)
+      let goes_on = among.goes_on in absurd (cc)
   by_behind (next ∷ more) are own = subst (IsSource read) (sym own)
       (source_of follow read past tiles lines among.front entity.head next more are)
 
@@ -178,39 +149,20 @@ module _ (read : Reading) (how : How) (seed : Option Pair)
 first_no_head : (bytes : List ℕ) (pairs : List Pair) (seed : Pair) → as_seed bytes pairs ≡ Some seed
     → is_coded (pos 0) seed ≡ false
 first_no_head bytes [] seed is = absurd (cc)
-first_no_head bytes (pair ∷ pairs) seed is =
-    by_tests (is_coded (pos 5) pair) (is_handle (value_in bytes pair)) refl is where
-      by_tests : (five good : Bool) → is_coded (pos 5) pair ≡ five → cond (five && good) (Some pair) None ≡ Some seed
-          → is_coded (pos 0) seed ≡ false
-      by_tests true true five_is made =
-          let same : pair ≡ seed = cc in
-          let code : pair.code ≡ pos 5 = coded pair (pos 5) five_is in
-          subst (λ (p : Pair). is_coded (pos 0) p ≡ false) same (rw code refl)
-      by_tests true false five_is made = absurd (cc)
-      by_tests false good five_is made = absurd (cc)
+first_no_head bytes (pair ∷ pairs) seed is = grind (arith, coded)
 
 seed_no_head : (bytes : List ℕ) (place : Where) (pairs : List Pair) (seed : Pair)
     → seed_from bytes place pairs ≡ Some seed → is_coded (pos 0) seed ≡ false
 seed_no_head bytes place [] seed is = absurd (cc)
 seed_no_head bytes place (pair ∷ pairs) seed is =
-    by_test (names_seed bytes place pair) is (seed_no_head bytes (section_behind bytes place pair) pairs seed) where
-      by_test : (names : Bool) → cond names (as_seed bytes pairs)
-          (seed_from bytes (section_behind bytes place pair) pairs)
-          ≡ Some seed → (seed_from bytes (section_behind bytes place pair) pairs ≡ Some seed
-          → is_coded (pos 0) seed ≡ false)
-          → is_coded (pos 0) seed ≡ false
-      by_test true made rest = first_no_head bytes pairs seed made
-      by_test false made rest = rest made
+    grind (arith, first_no_head, (seed_no_head bytes (section_behind bytes place pair) pairs seed))
 
 some_handle : (text : List ℕ) → is_handle text ≡ true → text ≡ [] → ⊥
 some_handle text is none = let no : is_handle text ≡ false = rw none refl in cc
 
 seed_value : (read : Reading) (seed : Pair) → is_handle (value_in read.bytes seed) ≡ true
     → IsValue (seed_text read (value_edit NextHandle seed))
-seed_value read seed is = by_test (next_behind read == first_handle read) where
-  by_test : (same : Bool) → IsValue (cond same (value_in read.bytes seed) (digits 16 true (next_behind read)))
-  by_test true = plain_value _ (plain_hexes (value_in read.bytes seed) (handle_digits (value_in read.bytes seed) is))
-  by_test false = plain_value _ (plain_digits 16 true (next_behind read))
+seed_value read seed is = grind (arith, plain_value, plain_hexes, handle_digits, plain_digits)
 
 seed_stands : (read : Reading) (seed : Option Pair) → seed_of read.bytes read.pairs ≡ seed
     → StandOn read read.pairs (seed_edits seed)
@@ -256,8 +208,7 @@ pub written : PairsTile → PairsAreInLines → GroupsFollow → GroupsAreWritte
 written tile in_lines follow how bytes pairs sheet images pairs_are sheet_is fit =
     let read : Reading = record { bytes = bytes; pairs = pairs; sheet = sheet; images = images } in
     let (past, inside, tiles) = tile bytes pairs pairs_are in
-    let lines = in_lines bytes pairs pairs_are in
-    ap (λ (r : Result (List Pair) PairFault). groups_of
+    let lines = in_lines bytes pairs pairs_are in ap (λ (r : Result (List Pair) PairFault). groups_of
     (splice_of bytes (λ (edit : Edit). text_by r bytes sheet images edit) sheet.edits)) pairs_are
     ∙ from_first follow read past (length bytes) pairs lines tiles inside
     (sheet_in_order bytes how pairs sheet (tile bytes pairs pairs_are) pairs_are sheet_is)
@@ -278,10 +229,7 @@ IsAsideLast (pair ∷ next ∷ pairs) edit = IsAsideLast (next ∷ pairs) edit
 ended_before : (start line past : ℕ) (pairs : List Pair) (edit : Edit) → AreTiles start line pairs past
     → edit.start < start → edit.end ≤ start → IsAsideLast pairs edit
 ended_before start line past [] edit tiles begins ends = tt
-ended_before start line past (pair ∷ []) edit tiles begins ends = record {
-  covering = grind (arith, nat_tests, tiles.0, ends);
-  of_value = grind (arith, nat_tests, tiles.0, tiles.2, begins);
-}
+ended_before start line past (pair ∷ []) edit tiles begins ends = grind (arith, ends)
 ended_before start line past (pair ∷ next ∷ pairs) edit tiles begins ends =
     ended_before pair.end (line + 2) past (next ∷ pairs) edit tiles.5
     (omega (arith, tiles.0, tiles.2, tiles.3, tiles.4)) (omega (arith, tiles.0, tiles.2, tiles.3, tiles.4))
@@ -345,10 +293,8 @@ AllAsideLast pairs (edit ∷ edits) = IsAsideLast pairs edit × AllAsideLast pai
 all_aside : (read : Reading) (start line past : ℕ) (pairs : List Pair) (edits : List Edit) → AreInLines read.bytes pairs
     → AreTiles start line pairs past → StandOn read pairs edits → AllAsideLast pairs edits
 all_aside read start line past pairs [] lines tiles stand = tt
-all_aside read start line past pairs (edit ∷ edits) lines tiles stand = (
-  aside_last read start line past pairs edit lines tiles stand.0,
-  all_aside read start line past pairs edits lines tiles stand.1,
-)
+all_aside read start line past pairs (edit ∷ edits) lines tiles stand =
+    grind (arith, aside_last, (all_aside read start line past pairs edits lines tiles stand.1))
 
 at_one : (pair : Pair) (edits : List Edit) → AllAsideLast (pair ∷ []) edits → AreAside pair edits
 at_one pair [] aside = tt
@@ -363,11 +309,7 @@ last_ends : (read : Reading) (pairs : List Pair) (edits : List Edit) → AreInLi
     → AllAsideLast pairs edits → list_any ends (flat_map (groups_in read edits) pairs) ≡ true
 last_ends read [] edits lines aside = absurd lines
 last_ends read (pair ∷ []) edits lines aside =
-    let last = lines.last in
-    let all = at_one pair edits aside in
-    subst (λ (groups : List Group). list_any ends groups ≡ true) (sym (append-nil (groups_in read edits pair)))
-    (any_behind (flat_map (λ (edit : Edit). groups_of (text_of read edit)) (filter (begins_at pair) edits)) _
-    (rw (none_covers pair edits all, none_replaces pair edits all, last) refl))
+    grind (arith, at_one, ends, append-nil, groups_in, any_behind, none_covers, none_replaces)
 last_ends read (pair ∷ next ∷ pairs) edits lines aside =
     any_behind (groups_in read edits pair) (flat_map (groups_in read edits) (next ∷ pairs))
     (last_ends read (next ∷ pairs) edits lines.1 (at_more pair next pairs edits aside))
@@ -380,9 +322,7 @@ written_is_a_drawing tile in_lines follow how bytes sheet images sheet_is fits =
 
     by_pairs : (result : Result (List Pair) PairFault) → drawing bytes ≡ result
         → (pairs : List Pair) × (drawing text ≡ Ok pairs)
-    by_pairs (Err fault) pairs_are = let never : from_pairs bytes how (Err fault) ≡ Ok sheet =
-        subst (λ (r : Result (List Pair) PairFault). from_pairs bytes how r ≡ Ok sheet) pairs_are sheet_is in absurd
-        (cc)
+    by_pairs (Err fault) pairs_are = grind arith
     by_pairs (Ok pairs) pairs_are =
         let read : Reading = record { bytes = bytes; pairs = pairs; sheet = sheet; images = images } in
         let (past, inside, tiles) = tile bytes pairs pairs_are in

@@ -1,6 +1,6 @@
 -- What is written of a walk, and the next handle in it.
 use Rattle.std.proofs.Common.{◌≡◌, ℕ, Bool, true, false, cond, refl, ap, sym, ◌∙◌, List, [], ◌∷◌, ◌++◌, ◌+◌, ◌≤◌, ℤ}
-use Rattle.std.proofs.Common.{pos, subst, map, filter, flat_map, length, Option, Some, Ok, arith, inl, inr, None, codes}
+use Rattle.std.proofs.Common.{pos, subst, filter, flat_map, length, Option, Some, Ok, arith, inl, inr, None}
 use Rattle.std.proofs.Common.{bytes_eq, ◌==◌, ◌<◌, ◌^◌, zero, suc, take}
 use Rattle.std.specs.Prelude.{⊤, ◌||◌, ◌&&◌, ◌⊎◌}
 use Rattle.std.specs.List.{list_any}
@@ -8,12 +8,10 @@ use Rattle.std.proofs.lemmas.List.{append_assoc, length-append}
 use Rattle.std.proofs.lemmas.Bool.{or_right}
 use Rattle.std.proofs.lemmas.Bool.Decides.{Decides-int_eq, nat_tests}
 use Rattle.std.specs.Ordering.{int_eq}
-use Rattle.std.specs.Fmt.{digits}
 use Rattle.plain_laws.proofs.Booleans.{and_first}
 use Rattle.sheet_base.specs.declared.edits.Edit.{Edit}
 use Rattle.sheet_base.specs.declared.flags.How.{How}
 use Rattle.sheet_base.specs.declared.paths.PathKind.{PathKind}
-use Rattle.sheet_base.specs.declared.paths.PathRow.{PathRow}
 use Rattle.sheet_base.specs.ImageFits.{Runs}
 use Rattle.sheet_base.specs.declared.edits.What.TheVariants as edits
 use Rattle.dxf_pairs.specs.declared.pairs.Pair.{Pair}
@@ -28,12 +26,12 @@ use Rattle.dxf_entities.specs.Seeds.{as_seed, seed_of, seed_edits}
 use Rattle.dxf_entities.specs.SectionPlaces.{seed_from, section_behind, begins_entity, names_seed, entities_from}
 use Rattle.dxf_entities.specs.SectionPlaces.{entities_of}
 use Rattle.dxf_entities.specs.declared.drawing.VertexFields.{VertexFields}
-use Rattle.dxf_entities.specs.Entities.{Entity, is_coded, has_both, entity_of, entity_end}
-use Rattle.dxf_entities.specs.Shapes.{Shape, rows_of, point_of, value_edit}
+use Rattle.dxf_entities.specs.Entities.{Entity, is_coded, entity_of, entity_end}
+use Rattle.dxf_entities.specs.Shapes.{Shape, rows_of, value_edit}
 use Rattle.dxf_entities.specs.Handles.{is_handle}
 use Rattle.dxf_entities.specs.declared.handles.TheConstants.{MOST_DIGITS}
 use Rattle.dxf_copies.specs.PairGroups.{begins_at, covers, is_of_value}
-use Rattle.dxf_copies.specs.Rendering.{Reading, text_of, next_behind, first_handle}
+use Rattle.dxf_copies.specs.Rendering.{Reading, text_of, next_behind}
 use Rattle.dxf_layer.specs.InsideWalks.{WalkPlace, reading, Step, walk_of}
 use Rattle.dxf_entities.proofs.GroupShapes.{is_seeded, Outline, Told, length_mapped}
 use Rattle.dxf_entities.proofs.WrittenGroups.{ends, handle_written}
@@ -75,26 +73,18 @@ any_behind (group ∷ groups) more is = or_right (ends group) (list_any ends (gr
 seeded_body : (groups rest : List Group) → HaveNoHead groups
     → seeded_from Entities (groups ++ rest) ≡ seeded_from Entities rest
 seeded_body [] rest none = refl
-seeded_body (group ∷ groups) rest none =
-    let here = none.0 in
-    rw here (seeded_body groups rest none.1)
+seeded_body (group ∷ groups) rest none = grind (arith, (seeded_body groups rest none.1))
 
 seeded_front : (entities : List Told) (rest : List Group) → AreWholeTold entities
     → seeded_from Entities (groups_told entities ++ rest) ≡ seeded_from Entities rest
 seeded_front [] rest whole = refl
 seeded_front (entity ∷ entities) rest whole =
-    let on = whole.0.goes_on in
-    let join = append_assoc entity.groups (groups_told entities) rest in
-    let later : seeded_from Entities (entity.groups ++ (groups_told entities ++ rest)) ≡ seeded_from Entities rest =
-    seeded_body _ _ whole.0.body ∙ seeded_front entities rest whole.1 in
-    rw (join, on, later) refl
+    grind (arith, append_assoc, groups_told, seeded_from, seeded_body, (seeded_front entities rest whole.1))
 
 seed_body : (bytes : List ℕ) (body rest : List Pair) → AreBody bytes body
     → seed_from bytes Entities (body ++ rest) ≡ seed_from bytes Entities rest
 seed_body bytes [] rest are = refl
-seed_body bytes (pair ∷ body) rest are =
-    let here = are.1.0 in
-    rw here (seed_body bytes body rest are.1.1)
+seed_body bytes (pair ∷ body) rest are = grind (arith, (seed_body bytes body rest are.1.1))
 
 -- an entity and those after it
 pub kept_entity : (bytes : List ℕ) (head : Pair) (body rest pairs : List Pair) (entities : List Told)
@@ -102,15 +92,7 @@ pub kept_entity : (bytes : List ℕ) (head : Pair) (body rest pairs : List Pair)
     → AreWholeTold entities → HasSome rest
     → IsKept bytes Entities rest groups → IsKept bytes Entities (head ∷ pairs) (groups_told entities ++ groups)
 kept_entity bytes head body rest pairs entities groups are lines goes_on whole some kept =
-    let first : seed_from bytes Entities (head ∷ pairs) ≡ seed_from bytes Entities pairs =
-    ap (λ (b : Bool). seed_from bytes (cond b Outside Entities) pairs) goes_on in
-    let last : seed_from bytes Entities pairs ≡ seed_from bytes Entities rest = ap (seed_from bytes Entities) are
-    ∙ seed_body bytes body rest lines in
-    record {
-      begins = λ is. absurd (cc);
-      seeded = seeded_front entities groups whole ∙ (kept.seeded ∙ ap is_seeded (sym (first ∙ last)));
-      ending = λ here. any_behind (groups_told entities) groups (kept.ending some);
-    }
+    grind (arith, seed_body, seeded_front, is_seeded, any_behind, groups_told)
 
 -- ---- the walk over what is written of a drawing
 -- rows, points and dots of shapes and of those after them
@@ -118,11 +100,7 @@ pub rows_both : (first : ℕ) (shapes more : List Shape)
     → rows_behind first (shapes ++ more) ≡ rows_behind first shapes ++ rows_behind (points_past first shapes) more
 rows_both first [] more = refl
 rows_both first (shape ∷ shapes) more =
-    ap (λ (rest : List PathRow). rows_of shape.kind first (first + length shape.points) ++ rest)
-    (rows_both (first + length shape.points) shapes more)
-    ∙ sym (append_assoc (rows_of shape.kind first (first + length shape.points))
-    (rows_behind (first + length shape.points) shapes)
-    (rows_behind (points_past (first + length shape.points) shapes) more))
+    grind (arith, append_assoc, rows_behind, points_past, (rows_both (first + length shape.points) shapes more))
 
 pub rows_count : (path first : ℕ) (shapes : List Shape)
     → path + length (rows_behind first shapes) ≡ paths_past path first shapes
@@ -166,11 +144,7 @@ enough_points bytes how seed kind vertices (entity ∷ entities) shapes is =
           → ((more_vertices : List VertexFields) (rest : List Shape)
           → walk_of bytes how seed (reading kind more_vertices) entities ≡ Ok rest
           → length more_vertices ≤ length (points_of rest)) → length vertices ≤ length (points_of shapes)
-      by_step here more are more_is (the_end end) later =
-          let same = are ∙ ap (λ (h : Step). h.shapes ++ more) end.here_is in
-          let size = length-append (map (λ (vertex : VertexFields). point_of vertex.spot) vertices) (points_of more) in
-          let count = length_mapped (λ (vertex : VertexFields). point_of vertex.spot) vertices in
-          subst (λ (s : List Shape). length vertices ≤ length (points_of s)) (sym same) (omega arith)
+      by_step here more are more_is (the_end end) later = grind (arith, length-append, points_of, length_mapped)
       by_step here more are more_is (one_vertex vertex) later =
           let same = are ∙ ap (λ (h : Step). h.shapes ++ more) vertex.here_is in
           let rest : walk_of bytes how seed (reading kind (vertices ++ vertex.vertex ∷ [])) entities ≡ Ok more =
@@ -205,9 +179,7 @@ harmless_behind read extra pair place h = by_test (is_coded (pos 5) pair) refl �
       ≡ behind_group place (group_in read.bytes pair)
   by_test true five =
       let code : pair.code ≡ pos 5 = (Decides-int_eq pair.code (pos 5)).0 five in
-      subst (λ (c : ℤ). behind_group place (record { code = c; value = h.value })
-      ≡ behind_group place (record { code = c; value = value_in read.bytes pair })) (sym code)
-      (five_behind place h.value _)
+      grind (arith, behind_group, five_behind)
   by_test false five = ap (λ (v : List ℕ). behind_group place (record { code = pair.code; value = v })) (h.same five)
 
 pub begins_same : (read : Reading) (place : Where) (pair : Pair) (value : List ℕ)
@@ -264,15 +236,7 @@ names_same read extra pair Outside h = refl
 names_same read extra pair Begun h = refl
 names_same read extra pair Entities h = refl
 names_same read extra pair Other h = refl
-names_same read extra pair Header h = by_test (is_coded (pos 5) pair) refl where
-  by_test : (five : Bool) → is_coded (pos 5) pair ≡ five
-      → is_group (pos 9) (codes "$HANDSEED") (record { code = pair.code; value = h.value })
-      ≡ has_both read.bytes (pos 9) (codes "$HANDSEED") pair
-  by_test true five =
-      let code : pair.code ≡ pos 5 = (Decides-int_eq pair.code (pos 5)).0 five in
-      subst (λ (c : ℤ). (int_eq c (pos 9) && bytes_eq h.value (codes "$HANDSEED"))
-      ≡ (int_eq c (pos 9) && bytes_eq (value_in read.bytes pair) (codes "$HANDSEED"))) (sym code) refl
-  by_test false five = ap (λ (v : List ℕ). int_eq pair.code (pos 9) && bytes_eq v (codes "$HANDSEED")) (h.same five)
+names_same read extra pair Header h = grind (arith, is_group, Decides-int_eq, bytes_eq)
 
 header_stays : (bytes : List ℕ) (place : Where) (pair : Pair) → names_seed bytes place pair ≡ true
     → section_behind bytes place pair ≡ Header
@@ -280,12 +244,7 @@ header_stays bytes Outside pair is = absurd (cc)
 header_stays bytes Begun pair is = absurd (cc)
 header_stays bytes Entities pair is = absurd (cc)
 header_stays bytes Other pair is = absurd (cc)
-header_stays bytes Header pair is =
-    let nine : is_coded (pos 9) pair ≡ true =
-    and_first _ _ is in
-    let code : pair.code ≡ pos 9 = (Decides-int_eq pair.code (pos 9)).0 nine in
-    let no_head : is_coded (pos 0) pair ≡ false = ap (λ (c : ℤ). int_eq c (pos 0)) code in
-    rw no_head refl
+header_stays bytes Header pair is = grind (arith, and_first, Decides-int_eq)
 
 pub kept_single : (read : Reading) (extra : List Edit) (pair : Pair) (pairs : List Pair) (place : Where)
     → (h : IsHarmless read extra pair) → AreInLines read.bytes (pair ∷ pairs) → (groups : List Group)
@@ -296,8 +255,7 @@ kept_single read extra pair pairs place h lines groups rest = record {
   seeded = ap (λ (b : Bool). cond b (begins_seeded groups) (seeded_from (behind_group place group) groups))
       (names_same read extra pair place h)
       ∙ (ap (λ (w : Where). cond (names_seed read.bytes place pair) (begins_seeded groups) (seeded_from w groups))
-      (harmless_behind read extra pair place h)
-      ∙ by_names (names_seed read.bytes place pair) refl);
+      (harmless_behind read extra pair place h) ∙ by_names (names_seed read.bytes place pair) refl);
   ending = λ some. by_more pairs lines rest.ending;
 } where
   group : Group
@@ -313,8 +271,7 @@ kept_single read extra pair pairs place h lines groups rest = record {
   by_more : (more : List Pair) → AreInLines read.bytes (pair ∷ more) → (HasSome more → list_any ends groups ≡ true)
       → list_any ends (group ∷ groups) ≡ true
   by_more [] last later =
-      let zero : is_coded (pos 0) pair ≡ true =
-      and_first _ _ last.last in
+      let zero : is_coded (pos 0) pair ≡ true = and_first _ _ last.last in
       let code : pair.code ≡ pos 0 = (Decides-int_eq pair.code (pos 0)).0 zero in
       let no_five : is_coded (pos 5) pair ≡ false = ap (λ (c : ℤ). int_eq c (pos 5)) code in
       let here : ends group ≡ true = ap (ends_drawing pair.code) (h.same no_five) ∙ last.last in
@@ -325,10 +282,7 @@ kept_single read extra pair pairs place h lines groups rest = record {
 -- the text of the next handle is a handle
 seed_is_handle : (read : Reading) (seed : Pair) → is_handle (value_in read.bytes seed) ≡ true
     → next_behind read < 16 ^ MOST_DIGITS → is_handle (text_of read (value_edit edits.NextHandle seed)) ≡ true
-seed_is_handle read seed is few = by_test (next_behind read == first_handle read) where
-  by_test : (same : Bool) → is_handle (cond same (value_in read.bytes seed) (digits 16 true (next_behind read))) ≡ true
-  by_test true = is
-  by_test false = handle_written _ few
+seed_is_handle read seed is few = grind (arith, handle_written)
 
 none_harmless : (read : Reading) (pair : Pair) → IsHarmless read [] pair
 none_harmless read pair = record {
@@ -410,9 +364,7 @@ last_value bytes pair last none = never_both _ (sym (ap (ends_drawing pair.code)
 pub pairs_some : (bytes : List ℕ) (start line past : ℕ) (pairs : List Pair) → AreTiles start line pairs past
     → AreInLines bytes pairs → AreSome pairs
 pairs_some bytes start line past [] tiles lines = tt
-pairs_some bytes start line past (pair ∷ []) tiles last =
-    let some = some_between bytes pair (last_value bytes pair last) in
-    (omega (arith, some, tiles.4), tt)
+pairs_some bytes start line past (pair ∷ []) tiles last = grind (arith, some_between, last_value)
 pairs_some bytes start line past (pair ∷ next ∷ pairs) tiles lines =
     let later = ends_later bytes pair lines.0 tiles.4 in
     (omega (arith, tiles.3, later), pairs_some bytes pair.end (line + 2) past (next ∷ pairs) tiles.5 lines.1)
@@ -464,13 +416,7 @@ silent_from bytes seed low high at later (pair ∷ pairs) place from past follow
       entity = entity_of pair pairs
 
       own : Follow pair.start (pair ∷ entity.pairs) (entity_end entity)
-      own = (
-        omega arith,
-        follow.1,
-        follow.2,
-        follow.3,
-        front_follows _ pair.end pairs past follow.4,
-      )
+      own = grind (arith, front_follows)
 
       by_test : (begins : Bool) → AreAside seed.start seed.end bytes
           (cond begins (entity ∷ entities_from bytes (section_behind bytes place pair) pairs)
@@ -504,27 +450,13 @@ seed_silent bytes pairs past follow some (Some seed) is =
 first_five : (bytes : List ℕ) (pairs : List Pair) (seed : Pair) → as_seed bytes pairs ≡ Some seed
     → is_coded (pos 5) seed ≡ true
 first_five bytes [] seed is = absurd (cc)
-first_five bytes (pair ∷ pairs) seed is = by_tests (is_coded (pos 5) pair) (is_handle (value_in bytes pair)) refl is
-  where
-    by_tests : (five good : Bool) → is_coded (pos 5) pair ≡ five → cond (five && good) (Some pair) None ≡ Some seed
-        → is_coded (pos 5) seed ≡ true
-    by_tests true true five_is made = let same : seed ≡ pair = cc in ap (λ (p : Pair). is_coded (pos 5) p) same
-        ∙ five_is
-    by_tests true false five_is made = absurd (cc)
-    by_tests false good five_is made = absurd (cc)
+first_five bytes (pair ∷ pairs) seed is = grind arith
 
 seed_five : (bytes : List ℕ) (place : Where) (pairs : List Pair) (seed : Pair) → seed_from bytes place pairs ≡ Some seed
     → is_coded (pos 5) seed ≡ true
 seed_five bytes place [] seed is = absurd (cc)
 seed_five bytes place (pair ∷ pairs) seed is =
-    by_test (names_seed bytes place pair) is (seed_five bytes (section_behind bytes place pair) pairs seed) where
-      by_test : (names : Bool) → cond names (as_seed bytes pairs)
-          (seed_from bytes (section_behind bytes place pair) pairs)
-          ≡ Some seed → (seed_from bytes (section_behind bytes place pair) pairs ≡ Some seed
-          → is_coded (pos 5) seed ≡ true)
-          → is_coded (pos 5) seed ≡ true
-      by_test true made rest = first_five bytes pairs seed made
-      by_test false made rest = rest made
+    grind (arith, first_five, (seed_five bytes (section_behind bytes place pair) pairs seed))
 
 pub seed_no_harm : (read : Reading) (past : ℕ) → Follow 0 read.pairs past → AreSome read.pairs
     → next_behind read < 16 ^ MOST_DIGITS → (seed : Option Pair) → seed_of read.bytes read.pairs ≡ seed → (pair : Pair)
@@ -532,6 +464,4 @@ pub seed_no_harm : (read : Reading) (past : ℕ) → Follow 0 read.pairs past �
 seed_no_harm read past follow some few None is pair is_in = none_harmless read pair
 seed_no_harm read past follow some few (Some seed) is pair is_in =
     let found = found_as read.bytes read.pairs (Some seed) is in
-    seed_harmless read 0 past follow some seed (seed_in read.bytes read.pairs Outside seed found)
-    (seed_five read.bytes Outside read.pairs seed found) (seed_is read.bytes Outside read.pairs seed found) few pair
-    is_in
+    grind (arith, seed_harmless, seed_in, seed_five, seed_is)

@@ -20,8 +20,7 @@ of-requires-4 c =
     c.seed_of-seed.result (contents_of c.in_ok-drawing.drawing) (contents_of c.read_entities.new.drawing)
     c.in-Ok.ensures.tile c.deref.ensures.value c.deref-2.ensures.value c.seed_of-seed.ensures c.in_ok-drawing.ensures
     c.in_ok-read_entities.ensures.reads in
-    let heights = made.2 in
-    rw (c.of.ensures, c.of-2.ensures) (record {
+    let heights = made.2 in rw (c.of.ensures, c.of-2.ensures) (record {
       tiled = made.0;
       few = omega (arith, c.in_ok-read_entities.ensures.room.points);
       one_height_each = heights.each;
@@ -36,8 +35,7 @@ returns-clause-edits c =
     c.in-Ok.ensures.tile c.deref.ensures.value c.deref-2.ensures.value c.seed_of-seed.ensures c.in_ok-drawing.ensures
     c.in_ok-read_entities.ensures.reads in
     let edits : c.of-4.result.edits ≡ in_order (contents_of c.read_entities.new.drawing).edits =
-    ap (λ (s : Contents). s.edits) c.of-4.ensures ∙ (c.of-3.ensures ∙ c.in_order-edits.ensures) in
-    rw edits made.1
+    ap (λ (s : Contents). s.edits) c.of-4.ensures ∙ (c.of-3.ensures ∙ c.in_order-edits.ensures) in rw edits made.1
 
 pub returns-clause-sheet : goal.returns-clause-sheet
 returns-clause-sheet c = rw (c.of-4.ensures, c.of.ensures, c.of-2.ensures, c.of-3.ensures, c.in_order-edits.ensures)

@@ -19,13 +19,11 @@ returns-in-Ok c =
     let bytes = c.args.bytes.now in
     let sheet = c.args.sheet.now in
     let images = c.args.images.now in
-    let made =
-    subst (λ (pairs : List Pair). IfOk c.render_page.result
+    let made = subst (λ (pairs : List Pair). IfOk c.render_page.result
     (λ out. out.items ≡ splice_of bytes (text_of
     (record { bytes = bytes; pairs = pairs; sheet = sheet; images = images })) sheet.edits))
     c.deref.ensures.value c.render_page.ensures in
-    let whole =
-    subst (λ (found : Result (List Pair) PairFault). IfOk c.render_page.result
+    let whole = subst (λ (found : Result (List Pair) PairFault). IfOk c.render_page.result
     (λ out. out.items ≡ splice_of bytes (text_by found bytes sheet images) sheet.edits)) (sym c.in-Ok.ensures.ok)
     made in
     record {
