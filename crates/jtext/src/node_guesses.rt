@@ -28,7 +28,7 @@ fn count_marks(bytes: &[u8]) -> usize {
     bytes.iter().filter(|byte| is_mark(**byte)).count()
 }
 
-/// Whether a value or a key may come behind the byte.
+/// Whether a value or a key may come after the byte.
 fn is_mark(byte: u8) -> bool {
     byte == b',' || byte == b':' || byte == b'[' || byte == b'{'
 }

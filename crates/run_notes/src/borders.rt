@@ -18,7 +18,7 @@ struct Rings {
 /// A side by its two corners in one number, whichever way it goes, and its own number: three times that of its triangle,
 /// and its place there.
 #[derive(Clone, Copy)]
-struct NumberedSide {
+struct JoinedSide {
     corners: u64,
     number: u32,
 }
@@ -98,13 +98,13 @@ fn ends_in_one(from: u32, to: u32) -> u64 {
 }
 
 /// All sides of the triangles, so that those of the same two corners follow each other.
-fn sides_of(alloc: Global, triangles: &[[u32; 3]]) -> Result<Vec<NumberedSide>, AllocError> {
+fn sides_of(alloc: Global, triangles: &[[u32; 3]]) -> Result<Vec<JoinedSide>, AllocError> {
     let mut sides = Vec::new(alloc);
     let mut number: u32 = 0;
     for numbers in triangles {
         let [a, b, c] = *numbers;
         for corners in [ends_in_one(a, b), ends_in_one(b, c), ends_in_one(c, a)] {
-            sides.push(NumberedSide { corners, number })?;
+            sides.push(JoinedSide { corners, number })?;
             number = number.saturating_add(1);
         }
     }

@@ -5,9 +5,9 @@ ghost use Rattle.std.specs.Prelude.{◌≡◌, length, IfOk};
 use std::alloc::{AllocError, Global};
 use tin_base::Tin;
 
-/// A side of a triangle, listed at the lower one of its corners.
+/// A side of a triangle, in the list of its lower corner.
 #[derive(Clone, Copy)]
-struct Side {
+struct ListedSide {
     /// The higher one of its corners.
     high: u32,
     /// Three times the number of its triangle, and its place there.
@@ -27,11 +27,13 @@ pub(crate) fn guess_mates(alloc: Global, tin: &Tin) -> Result<Vec<[u32; 3]>, All
 {
     let triangles = tin.triangles();
     let mut starts = vec![in alloc; 0; tin.corners().len().saturating_add(1)]?;
-    let mut sides = vec![in alloc; Side { high: 0, number: 0 }; triangles.len().saturating_mul(3)]?;
+    let mut sides = vec![in alloc; ListedSide { high: 0, number: 0 }; triangles
+        .len()
+        .saturating_mul(3)]?;
     let mut mates = vec![in alloc; [NONE; 3]; triangles.len()]?;
     count_sides(triangles, &mut starts);
     add_up(&mut starts);
-    put_sides(triangles, &mut starts, &mut sides);
+    group_sides(triangles, &mut starts, &mut sides);
     match_sides(&starts, &mut sides, &mut mates);
     Ok(mates)
 }
@@ -67,18 +69,18 @@ fn add_up(counts: &mut [u32]) {
 }
 
 /// Puts the sides of each lower corner together: where they end becomes where they begin.
-fn put_sides(triangles: &[[u32; 3]], ends: &mut [u32], sides: &mut [Side]) {
+fn group_sides(triangles: &[[u32; 3]], ends: &mut [u32], sides: &mut [ListedSide]) {
     let mut number: u32 = 0;
     for numbers in triangles {
         for (low, high) in ends_of(numbers) {
-            put_side(ends, sides, low, Side { high, number });
+            group_side(ends, sides, low, ListedSide { high, number });
             number = number.saturating_add(1);
         }
     }
 }
 
 /// Puts one side into the place before the last one that was filled of its corner.
-fn put_side(ends: &mut [u32], sides: &mut [Side], low: u32, side: Side) {
+fn group_side(ends: &mut [u32], sides: &mut [ListedSide], low: u32, side: ListedSide) {
     if let Some(end) = ends.get_mut(low as usize) {
         *end = end.saturating_sub(1);
         if let Some(slot) = sides.get_mut(*end as usize) {
@@ -89,7 +91,7 @@ fn put_side(ends: &mut [u32], sides: &mut [Side], low: u32, side: Side) {
 
 /// Makes sides with the same ends each other's mates. The first list says where the sides of each corner begin, and at last
 /// where they end.
-fn match_sides(starts: &[u32], sides: &mut [Side], mates: &mut [[u32; 3]]) {
+fn match_sides(starts: &[u32], sides: &mut [ListedSide], mates: &mut [[u32; 3]]) {
     for bounds in starts.windows(2) {
         let end = sides.len().min(bounds[1] as usize);
         let first = end.min(bounds[0] as usize);
@@ -98,7 +100,7 @@ fn match_sides(starts: &[u32], sides: &mut [Side], mates: &mut [[u32; 3]]) {
 }
 
 /// Makes sides of one lower corner each other's mates where they have the same higher one.
-fn match_at(sides: &mut [Side], mates: &mut [[u32; 3]]) {
+fn match_at(sides: &mut [ListedSide], mates: &mut [[u32; 3]]) {
     if sides.len() > FEW {
         sides.sort_unstable_by_key(|side| side.high);
         match_neighbours(sides, mates);
@@ -107,15 +109,15 @@ fn match_at(sides: &mut [Side], mates: &mut [[u32; 3]]) {
     }
 }
 
-/// The same where sides with the same higher corner follow each other.
-fn match_neighbours(sides: &[Side], mates: &mut [[u32; 3]]) {
+/// Makes sides each other's mates where those with the same higher corner follow each other.
+fn match_neighbours(sides: &[ListedSide], mates: &mut [[u32; 3]]) {
     for pair in sides.windows(2) {
         match_two(pair[0], pair[1], mates);
     }
 }
 
-/// The same where sides are in any order.
-fn match_few(sides: &[Side], mates: &mut [[u32; 3]]) {
+/// Makes sides in any order each other's mates where they have the same higher corner.
+fn match_few(sides: &[ListedSide], mates: &mut [[u32; 3]]) {
     for (place, side) in sides.iter().enumerate() {
         for other in &sides[place + 1..] {
             match_two(*side, *other, mates);
@@ -124,7 +126,7 @@ fn match_few(sides: &[Side], mates: &mut [[u32; 3]]) {
 }
 
 /// Makes two sides of one lower corner each other's mates where they have the same higher one.
-fn match_two(side: Side, other: Side, mates: &mut [[u32; 3]]) {
+fn match_two(side: ListedSide, other: ListedSide, mates: &mut [[u32; 3]]) {
     if side.high == other.high {
         set_mate(mates, side.number, other.number / 3);
         set_mate(mates, other.number, side.number / 3);
