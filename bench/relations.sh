@@ -98,7 +98,7 @@ cat > "$work/crates/relations_bench/proofs/related/Answers.antt" <<'END'
 -- Answers to the goals of `related` in src/main.rt.
 use Rattle.plane_base.specs.Plane.{IsNear}
 use Rattle.plane_base.specs.declared.shapes.Pt.{Pt}
-use Rattle.plane_base.proofs.NearPoints.{near_small}
+use Rattle.plane_base.proofs.Bounds.NearPoints.{near_small}
 use Rattle.relations_bench.specs.Small.{IsSmall}
 use Rattle.relations_bench.proofs.related.Goals as goal
 

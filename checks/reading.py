@@ -42,14 +42,14 @@ PROMISES = {  # what is promised, and the clauses: a file of src, a function, la
     "H": ("a list of points is moved", ["height_mode/src/heights.rt prepare_heights ok"]),
 }
 IDEA = [  # the files to read first: what is promised of relations, then what its words mean, lowest first
-    "migrate/KeptRelations", "plane_base/Plane", "tin_base/Triangulation", "tin_base/Soundness", "tin_base/Images",
+    "migrate_mode/KeptRelations", "plane_base/Plane", "tin_base/Triangulation", "tin_base/Soundness", "tin_base/Images",
     "affine_image/RoundedImages", "tin_base/Segments", "tin_base/Pieces", "sheet_pieces/SheetPieces",
     "tin_base/Relations", "topo_check/Changes"]
 SUBJECTS = [  # the rest, in the order in which to read, and their crates
     ("Triangulations, segments and images", "frac128 plane_base tin_base border_law tin_check tin_faults meet_rel affine_image seg_walk topo_check"),
     ("A layer of any format, and what carrying makes of it", "sheet_base sheet_pieces carry_map ring_side tin_height"),
     ("A run: its words, files, refusals, report and ends", "shelf_io text_places text_fields job_words runs cert_check report_text "
-     "publication check_mode layer_formats migrate verify_mode height_mode whole_runs change_places fault_runs"),
+     "publication check_mode layer_formats migrate_mode verify_mode height_mode whole_runs change_places fault_runs"),
     ("Numerals", "mm_decimal"),
     ("Well-known text", "wkt_layer"),
     ("JSON, and the file of a triangulation", "jtext tin_file"),

@@ -8,13 +8,13 @@ use Rattle.integer_ring.proofs.Claims.{◌≐◌, eqn, ◌⊞◌, ◌because◌,
 use Rattle.frac128.specs.Rounding.{half_up_of}
 use Rattle.plane_base.specs.Plane.{Point, Same, weighted_sum, whole, along, IsNearAll}
 use Rattle.plane_base.specs.declared.shapes.Pt.{Pt}
-use Rattle.plane_base.proofs.Along.{along-w}
+use Rattle.plane_base.proofs.MixLaws.Along.{along-w}
 use Rattle.tin_base.specs.declared.frames.Frame.TheVariants.{Source, Target}
 use Rattle.tin_base.specs.Triangulation.{Triangulation, place, corner_at, numbers_of}
 use Rattle.tin_base.specs.Images.{AreLikeMixes}
 use Rattle.tin_base.specs.Limits.{IsWithinLimits}
-use Rattle.tin_base.proofs.TriangleCorners.{near_points}
-use Rattle.tin_base.proofs.Alike.{same_refl, same_moved, alike_more}
+use Rattle.tin_base.proofs.TriangleLemmas.TriangleCorners.{near_points}
+use Rattle.tin_base.proofs.FrameImages.Alike.{same_refl, same_moved, alike_more}
 use Rattle.affine_image.specs.RoundedImages.{rounded_point}
 use Rattle.affine_image.specs.Cuts.{cut_of}
 use Rattle.affine_image.specs.Laws.{CutsAreImages}

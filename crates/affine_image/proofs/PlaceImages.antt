@@ -4,7 +4,7 @@ use Rattle.plane_base.specs.Plane.{Point, Same}
 use Rattle.plane_base.specs.declared.shapes.Pt.{Pt}
 use Rattle.tin_base.specs.Triangulation.{Triangulation}
 use Rattle.tin_base.specs.Images.{IsImage}
-use Rattle.tin_base.proofs.Alike.{same_trans}
+use Rattle.tin_base.proofs.FrameImages.Alike.{same_trans}
 use Rattle.affine_image.specs.RoundedImages.{IsRoundedImageAt}
 
 pub image_moved : (tin : Triangulation) (p q r : Point) → pos 0 <ℤ p.w → Same q p → IsImage tin p r → IsImage tin q r

@@ -15,7 +15,7 @@ use Rattle.tin_base.specs.declared.frames.Frame.TheVariants.{Target}
 use Rattle.tin_base.specs.declared.limits.TheConstants.{REACH}
 use Rattle.tin_base.specs.Triangulation.{Triangulation, x_in, y_in, corner_at, places, numbers_of}
 use Rattle.tin_base.specs.Limits.{IsWithinLimits}
-use Rattle.tin_base.proofs.Alike.{mix-w}
+use Rattle.tin_base.proofs.FrameImages.Alike.{mix-w}
 use Rattle.affine_image.specs.RoundedImages.{IsRoundedImageAt}
 use Rattle.affine_image.specs.Laws.{RoundedImagesAreInReach, RoundedImagesAreNear}
 use Rattle.affine_image.proofs.HalfUp.{rounded_not_below, rounded_not_above}

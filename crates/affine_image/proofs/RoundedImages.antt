@@ -2,7 +2,7 @@
 use Rattle.std.proofs.Common.{◌≡◌, pos, ◌<ℤ◌, sym, ◌∙◌, ap₂, ℤ}
 use Rattle.plane_base.specs.Plane.{Point, Same}
 use Rattle.plane_base.specs.declared.shapes.Pt.{Pt}
-use Rattle.tin_base.proofs.Agreement.{all_images_agree}
+use Rattle.tin_base.proofs.FrameImages.Agreement.{all_images_agree}
 use Rattle.affine_image.specs.RoundedImages.{rounded_point}
 use Rattle.affine_image.specs.Laws.{RoundedImagesAgree}
 use Rattle.affine_image.proofs.HalfUp.{same_rounded}

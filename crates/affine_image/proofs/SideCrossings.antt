@@ -8,10 +8,10 @@ use Rattle.plane_base.specs.Plane.{Point, Same, whole, along, turn_of, IsMix}
 use Rattle.plane_base.specs.Laws.{HasParameter}
 use Rattle.plane_base.specs.Slices.{IsParam, IsParallel}
 use Rattle.plane_base.specs.declared.shapes.Pt.{Pt}
-use Rattle.plane_base.proofs.Mixes.{same_trans}
-use Rattle.plane_base.proofs.Turns.{turn_cycle, turn_twice, turn_same}
-use Rattle.plane_base.proofs.Along.{turn_along, along-w}
-use Rattle.plane_base.proofs.Parameters.{segments_have_parameters}
+use Rattle.plane_base.proofs.MixLaws.Mixes.{same_trans}
+use Rattle.plane_base.proofs.MixLaws.Turns.{turn_cycle, turn_twice, turn_same}
+use Rattle.plane_base.proofs.MixLaws.Along.{turn_along, along-w}
+use Rattle.plane_base.proofs.MixLaws.Parameters.{segments_have_parameters}
 
 -- ---- the points of the segment are on its line
 on_line : (a b : Pt) (n d : ℤ) → turn_of (whole a) (whole b) (along (whole a) (whole b) n d) ≡ pos 0

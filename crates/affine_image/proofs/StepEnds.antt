@@ -12,22 +12,22 @@ use Rattle.plane_base.specs.declared.shapes.Tri.{Tri}
 use Rattle.plane_base.specs.declared.stretches.End.{End}
 use Rattle.plane_base.specs.declared.stretches.End.TheVariants.{Vertex, Side}
 use Rattle.plane_base.specs.declared.stretches.Stretch.{Stretch}
-use Rattle.plane_base.proofs.Mixes.{same_refl, same_sym, same_trans, same_moved, mix_moved}
-use Rattle.plane_base.proofs.Along.{along-w}
+use Rattle.plane_base.proofs.MixLaws.Mixes.{same_refl, same_sym, same_trans, same_moved, mix_moved}
+use Rattle.plane_base.proofs.MixLaws.Along.{along-w}
 use Rattle.tin_base.specs.declared.frames.Frame.TheVariants.{Source, Target}
 use Rattle.tin_base.specs.Triangulation.{Triangulation, place, corner_at, numbers_of, places, IsInTriangle}
 use Rattle.tin_base.specs.Limits.{IsWithinLimits}
 use Rattle.tin_base.specs.Soundness.{has}
 use Rattle.tin_base.specs.Segments.{spot_at}
-use Rattle.tin_base.proofs.Members.{has_first, has_second, has_third}
+use Rattle.tin_base.proofs.TriangleLemmas.Members.{has_first, has_second, has_third}
 use Rattle.affine_image.specs.RoundedImages.{rounded_point, IsRoundedImage, IsRoundedImageAt}
 use Rattle.affine_image.specs.Cuts.{cut_of}
 use Rattle.affine_image.proofs.CornerSegments.{cuts_are_images}
 use Rattle.affine_image.proofs.PlaceImages.{rounded_moved}
 use Rattle.tin_base.specs.Slices.{spot_of, IsSliceIn, AreNearTriangle}
-use Rattle.tin_base.proofs.Params.{at_spot}
-use Rattle.tin_base.proofs.SlicedParts.{params}
-use Rattle.tin_base.proofs.TrianglePlaces.{source_at, stands}
+use Rattle.tin_base.proofs.SegmentSpots.Params.{at_spot}
+use Rattle.tin_base.proofs.SegmentSpots.SlicedParts.{params}
+use Rattle.tin_base.proofs.TriangleLemmas.TrianglePlaces.{source_at, stands}
 use Rattle.affine_image.specs.InsideSides.{corner_number, next_corner}
 use Rattle.affine_image.proofs.SideCrossings.{parallel, crossing, IsOnSide}
 use Rattle.plain_laws.proofs.Weights.{share_axis}

@@ -9,12 +9,12 @@ use Rattle.frac128.specs.Rounding.{half_up_of}
 use Rattle.plane_base.specs.Plane.{Point, Same, turn_of, weighted_sum, whole, corners_of, holds_of}
 use Rattle.plane_base.specs.declared.shapes.Pt.{Pt}
 use Rattle.plane_base.specs.declared.shapes.Tri.{Tri}
-use Rattle.plane_base.proofs.Turns.{turn_split}
-use Rattle.plane_base.proofs.InTriangle.{turns_of_mix}
-use Rattle.plane_base.proofs.Proportions.{weights_are_turns}
+use Rattle.plane_base.proofs.MixLaws.Turns.{turn_split}
+use Rattle.plane_base.proofs.TriangleLaws.InTriangle.{turns_of_mix}
+use Rattle.plane_base.proofs.MixLaws.Proportions.{weights_are_turns}
 use Rattle.tin_base.specs.declared.frames.Frame.TheVariants.{Source, Target}
 use Rattle.tin_base.specs.Triangulation.{Triangulation, place, corner_at, places, numbers_of, IsInTriangle}
-use Rattle.tin_base.proofs.Alike.{mix-w, same_refl}
+use Rattle.tin_base.proofs.FrameImages.Alike.{mix-w, same_refl}
 use Rattle.affine_image.specs.RoundedImages.{IsRoundedImage}
 use Rattle.affine_image.specs.InsideWeights.{numerator}
 use Rattle.affine_image.specs.declared.weights.Weights.{Weights}

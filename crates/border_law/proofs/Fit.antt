@@ -7,14 +7,14 @@ use Rattle.integer_ring.proofs.Ring.{num, neg, ◌⊕◌, ◌⊗◌}
 use Rattle.integer_ring.proofs.Order.{≤_of_<}
 use Rattle.integer_ring.proofs.Claims.{◌≐◌, ◌≺◌, gap, over, eqn, ◌⊞◌, ◌⊠◌, ◌otherwise◌, ◌⇒◌, follows}
 use Rattle.plane_base.specs.Plane.{Point, turn_of, IsMix}
-use Rattle.plane_base.proofs.Points.{turn, solve_at}
-use Rattle.plane_base.proofs.Turns.{turn_swap, turn_twice, turn_cycle}
-use Rattle.plane_base.proofs.CommonPoints.{mix_of_side}
+use Rattle.plane_base.proofs.MixLaws.Points.{turn, solve_at}
+use Rattle.plane_base.proofs.MixLaws.Turns.{turn_swap, turn_twice, turn_cycle}
+use Rattle.plane_base.proofs.TriangleLaws.CommonPoints.{mix_of_side}
 use Rattle.tin_base.specs.declared.frames.Frame.{Frame}
 use Rattle.tin_base.specs.Triangulation.{Triangulation, place, corner_at, numbers_of}
 use Rattle.tin_base.specs.Soundness.{has, common, common_of}
-use Rattle.tin_base.proofs.Weights.{HasAll, common_in_first, common_in_second}
-use Rattle.tin_base.proofs.Alike.{alike_of, alike_in, alike_more}
+use Rattle.tin_base.proofs.FrameImages.Weights.{HasAll, common_in_first, common_in_second}
+use Rattle.tin_base.proofs.FrameImages.Alike.{alike_of, alike_in, alike_more}
 use Rattle.border_law.specs.Borders.{IsFrom, Mates, IsBordered, BorderedTrianglesFit, BorderedIsSound}
 use Rattle.border_law.proofs.Rows.{next_from, Net, MeetsAt, Partner, partner_or, above, turned, row_of, left_of_mix}
 use Rattle.border_law.proofs.Inner.{Large, IsInner, moved, near, near_inner, both, not_both_inner}

@@ -3,7 +3,7 @@ use Rattle.std.proofs.Common.{◌≡◌, ℤ, pos, ◌+ℤ◌, ◌-ℤ◌, ◌*�
 use Rattle.integer_ring.proofs.Ring.{Expr, num, neg, ◌⊕◌, ◌⊖◌, ◌⊗◌}
 use Rattle.integer_ring.proofs.Claims.{◌≐◌, ◌≺◌, gap, over, ◌⊞◌, ◌⊠◌, ◌because◌, ◌otherwise◌, ◌⇒◌, follows}
 use Rattle.plane_base.specs.Plane.{Point, turn_of}
-use Rattle.plane_base.proofs.Points.{PointE, turn, solve_at}
+use Rattle.plane_base.proofs.MixLaws.Points.{PointE, turn, solve_at}
 
 -- above 0 where p is above the line through z, and 0 on it
 abbrev pub above_of : Point → Point → ℤ

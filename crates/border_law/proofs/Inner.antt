@@ -8,7 +8,7 @@ use Rattle.integer_ring.proofs.Order.{≤_of_<, nonneg_pos}
 use Rattle.integer_ring.proofs.Claims.{◌≐◌, ◌≼◌, ◌≺◌, never, gap, over, eqn, ◌⊞◌, ◌⊠◌, ◌because◌, ◌⇒◌, follows}
 use Rattle.plain_laws.proofs.Weights.{lift}
 use Rattle.plane_base.specs.Plane.{Point, turn_of}
-use Rattle.plane_base.proofs.Points.{turn, plus, solve_at}
+use Rattle.plane_base.proofs.MixLaws.Points.{turn, plus, solve_at}
 use Rattle.border_law.specs.Borders.{IsFrom}
 use Rattle.border_law.proofs.Heights.{above_of, GoesUp}
 use Rattle.border_law.proofs.Rows.{next_from, Net}

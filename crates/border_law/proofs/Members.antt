@@ -2,8 +2,8 @@
 use Rattle.std.proofs.Common.{◌≡◌, ◌⊎◌, ℕ, true, List, [], ◌∷◌, arith}
 use Rattle.std.proofs.lemmas.Bool.Decides.{eqb_tells}
 use Rattle.tin_base.specs.Soundness.{has, common}
-use Rattle.tin_base.proofs.Members.{one_of_three, has_first, has_second, has_third, has_common}
-use Rattle.tin_base.proofs.Weights.{HasAll}
+use Rattle.tin_base.proofs.TriangleLemmas.Members.{one_of_three, has_first, has_second, has_third, has_common}
+use Rattle.tin_base.proofs.FrameImages.Weights.{HasAll}
 use Rattle.border_law.specs.Borders.{IsFrom}
 
 pub first_has : (ns : List ℕ) (i j k : ℕ) → IsFrom ns i j k → has ns i ≡ true

@@ -8,8 +8,8 @@ use Rattle.integer_ring.proofs.Order.{nonneg_pos}
 use Rattle.integer_ring.proofs.Signs.{≡_of_mul}
 use Rattle.integer_ring.proofs.Claims.{◌≐◌, ◌≼◌, ◌≺◌, never, gap, over, eqn, ◌⊞◌, ◌⊠◌, ◌because◌, ◌otherwise◌, ◌⇒◌, follows}
 use Rattle.plane_base.specs.Plane.{Point, Same, turn_of, IsMix}
-use Rattle.plane_base.proofs.Points.{PointE, turn, follows_at, solve_at}
-use Rattle.plane_base.proofs.Turns.{turn_split, turn_same, turn_cycle, turn_twice}
+use Rattle.plane_base.proofs.MixLaws.Points.{PointE, turn, follows_at, solve_at}
+use Rattle.plane_base.proofs.MixLaws.Turns.{turn_split, turn_same, turn_cycle, turn_twice}
 use Rattle.border_law.specs.Borders.{IsFrom}
 use Rattle.border_law.proofs.Rows.{next_from, Net, above, turned, row_of, AreLeft, left_of_mix}
 use Rattle.border_law.proofs.Inner.{IsInner, moved, turn_moved}

@@ -8,10 +8,10 @@ use Rattle.integer_ring.proofs.Order.{≤_of_<, ≤_or_>}
 use Rattle.integer_ring.proofs.Signs.{≡_of_mul}
 use Rattle.integer_ring.proofs.Claims.{◌≐◌, ◌≼◌, ◌≺◌, never, gap, over, eqn, ◌⊞◌, ◌⊠◌, ◌because◌, ◌otherwise◌, ◌⇒◌, follows}
 use Rattle.plane_base.specs.Plane.{Point, Same, turn_of, IsMix}
-use Rattle.plane_base.proofs.Points.{PointE, turn, follows_at, solve_at}
-use Rattle.plane_base.proofs.Turns.{turn_swap, turn_cycle, turn_twice}
+use Rattle.plane_base.proofs.MixLaws.Points.{PointE, turn, follows_at, solve_at}
+use Rattle.plane_base.proofs.MixLaws.Turns.{turn_swap, turn_cycle, turn_twice}
 use Rattle.tin_base.specs.Soundness.{has, common}
-use Rattle.tin_base.proofs.Weights.{common_in_first, common_in_second}
+use Rattle.tin_base.proofs.FrameImages.Weights.{common_in_first, common_in_second}
 use Rattle.border_law.specs.Borders.{IsFrom}
 use Rattle.border_law.proofs.Rows.{next_from, shifted, AreShifted, Net, MeetsAt, Partner, partner_or, above, turned}
 use Rattle.border_law.proofs.Descent.{Next, ends}

@@ -4,8 +4,8 @@ use Rattle.std.proofs.Common.{◌≡◌, ◌≢◌, ◌⊎◌, inl, inr, ℕ, �
 use Rattle.std.proofs.Common.{List, [], ◌∷◌, length, map, Option, Some, None, refl, sym, subst}
 use lib.Signed.{lt_z_yes}
 use Rattle.plane_base.specs.Plane.{Point, turn_of, IsMix}
-use Rattle.plane_base.proofs.Turns.{turn_cycle}
-use Rattle.plane_base.proofs.InTriangle.{turns_of_mix, mix_of_turns}
+use Rattle.plane_base.proofs.MixLaws.Turns.{turn_cycle}
+use Rattle.plane_base.proofs.TriangleLaws.InTriangle.{turns_of_mix, mix_of_turns}
 use Rattle.tin_base.specs.Soundness.{turn_of_three, common}
 use Rattle.border_law.specs.Borders.{IsFrom, HasSide}
 

@@ -7,7 +7,7 @@ use Rattle.integer_ring.proofs.Claims.{◌≐◌, eqn, ◌because◌, ◌⇒◌,
 use Rattle.plain_laws.proofs.Weights.{one_positive}
 use Rattle.plane_base.specs.Plane.{Point, Same, IsMix}
 use Rattle.tin_base.specs.Soundness.{has}
-use Rattle.tin_base.proofs.Members.{has_head}
+use Rattle.tin_base.proofs.TriangleLemmas.Members.{has_head}
 
 no_mix : (p : Point) → IsMix p [] → ⊥
 no_mix p ([], e, some, same) = absurd (omega arith)

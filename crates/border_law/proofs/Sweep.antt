@@ -8,8 +8,8 @@ use Rattle.integer_ring.proofs.Order.{≤_of_<}
 use Rattle.integer_ring.proofs.Signs.{zero_cases}
 use Rattle.integer_ring.proofs.Claims.{◌≐◌, ◌≼◌, ◌≺◌, gap, over, eqn, ◌⊞◌, ◌⊠◌, ◌because◌, ◌otherwise◌, ◌⇒◌, follows}
 use Rattle.plane_base.specs.Plane.{Point, Same, turn_of, IsMix}
-use Rattle.plane_base.proofs.Turns.{turn_swap}
-use Rattle.plane_base.proofs.CommonPoints.{mix_of_side}
+use Rattle.plane_base.proofs.MixLaws.Turns.{turn_swap}
+use Rattle.plane_base.proofs.TriangleLaws.CommonPoints.{mix_of_side}
 use Rattle.tin_base.specs.Soundness.{common}
 use Rattle.border_law.specs.Borders.{IsFrom}
 use Rattle.border_law.proofs.Heights.{above_of, meeting_of, rise_of, GoesUp, meeting-w, rise_positive, above_meeting}

@@ -7,7 +7,7 @@ use Rattle.tin_base.specs.declared.pieces.Piece.{Piece}
 use Rattle.tin_base.specs.Triangulation.{Triangulation}
 use Rattle.tin_base.specs.Soundness.{IsSound}
 use Rattle.tin_base.specs.Segments.{Part, IsInside, ArePiecesOf}
-use Rattle.tin_base.proofs.Outcomes as walks
+use Rattle.tin_base.proofs.PieceChains.Outcomes as walks
 use Rattle.sheet_pieces.specs.SheetSegments.{SheetSegment, sheet_segments}
 use Rattle.sheet_pieces.specs.SheetPieces.{AreTold, first_place, ArePiecesOfSegment}
 use Rattle.sheet_pieces.proofs.SomeImages.{some_parts, told_parts, images_exist}

@@ -20,7 +20,7 @@ use Rattle.sheet_pieces.specs.SheetSegments.{SheetSegment, PathVertex, segment_a
 use Rattle.sheet_pieces.specs.SheetSegments.{segments_begun}
 use Rattle.sheet_pieces.proofs.PathVertices.{few, first_vertices, one_vertex_more, begins_one, begins_none}
 use Rattle.sheet_pieces.proofs.PathVertices.{first_point_is, next_begins, split_at, in_points}
-use Rattle.tin_base.proofs.Spots.{first_inside}
+use Rattle.tin_base.proofs.SegmentSpots.Spots.{first_inside}
 use Rattle.carry_map.specs.declared.segments.PathSegment.{PathSegment}
 use Rattle.carry_map.specs.declared.paths.PathAt.{PathAt}
 use Rattle.carry_map.specs.declared.faults.CarryFault.{CarryFault}

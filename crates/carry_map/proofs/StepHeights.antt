@@ -13,7 +13,7 @@ use Rattle.tin_base.specs.Limits.{IsWithinLimits}
 use Rattle.tin_base.specs.Soundness.{IsSound}
 use Rattle.tin_base.specs.Segments.{Part, part_at, IsInside, ArePiecesAt, ArePiecesOf}
 use Rattle.tin_base.specs.Slices.{spot_of}
-use Rattle.tin_base.proofs.SlicedParts.{params}
+use Rattle.tin_base.proofs.SegmentSpots.SlicedParts.{params}
 use Rattle.sheet_pieces.specs.SpotHeights.{param_height, crossing_heights}
 use Rattle.sheet_pieces.proofs.PartSequences.{same_or}
 use Rattle.sheet_pieces.proofs.OneCut.{cut_alike}

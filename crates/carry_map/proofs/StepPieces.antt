@@ -6,7 +6,7 @@ use Rattle.std.proofs.Math.ListN.{length-map}
 use Rattle.std.proofs.lemmas.Int.{ints}
 use Rattle.plane_base.specs.Plane.{Same, whole}
 use Rattle.plane_base.specs.declared.shapes.Pt.{Pt}
-use Rattle.plane_base.proofs.Mixes.{same_refl, same_sym, same_trans}
+use Rattle.plane_base.proofs.MixLaws.Mixes.{same_refl, same_sym, same_trans}
 use Rattle.tin_base.specs.declared.pieces.Piece.{Piece}
 use Rattle.tin_base.specs.declared.pieces.Place.{Place}
 use Rattle.tin_base.specs.Triangulation.{Triangulation}
@@ -16,14 +16,14 @@ use Rattle.tin_base.specs.Segments.{Part, part_at, no_part, spot_at, IsInside, A
 use Rattle.affine_image.specs.RoundedImages.{IsRoundedImage, IsRoundedImageAt}
 use Rattle.affine_image.proofs.PlaceImages.{rounded_moved}
 use Rattle.sheet_pieces.specs.SheetPieces.{AreTold}
-use Rattle.tin_base.proofs.Spots.{spot-w, spot_of_point}
+use Rattle.tin_base.proofs.SegmentSpots.Spots.{spot-w, spot_of_point}
 use Rattle.sheet_pieces.proofs.PartSequences.{same_or, AreInLine, in_line}
 use Rattle.sheet_pieces.proofs.PieceParts.{place_on, told_more, told_length}
 use Rattle.seg_walk.specs.declared.steps.Step.{Step}
 use Rattle.tin_base.specs.Slices.{spot_of, IsSliceIn}
 use Rattle.seg_walk.specs.Steps.{part_of, point_of, HaveSlices, AreSteps}
-use Rattle.tin_base.proofs.SlicedParts.{params, HasParams}
-use Rattle.tin_base.proofs.Params.{spot_some}
+use Rattle.tin_base.proofs.SegmentSpots.SlicedParts.{params, HasParams}
+use Rattle.tin_base.proofs.SegmentSpots.Params.{spot_some}
 use Rattle.carry_map.specs.CarriedLists.{AreSegmentTold}
 use Rattle.carry_map.specs.Causes.{IsWayTooMany}
 use Rattle.carry_map.specs.declared.segments.PathSegment.{PathSegment}

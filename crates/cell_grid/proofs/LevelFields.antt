@@ -11,7 +11,7 @@ use Rattle.cell_grid.specs.LevelLists.{AreLaid}
 use Rattle.cell_grid.specs.Around.{IsAround, corner_of, put_of}
 use Rattle.cell_grid.specs.declared.levels.Level.{Level}
 use Rattle.cell_grid.proofs.Spans.{past, past_corner, between_in, put_same}
-use Rattle.plane_base.proofs.BoxLemmas.{outer_has}
+use Rattle.plane_base.proofs.Bounds.BoxLemmas.{outer_has}
 use Rattle.cell_grid.proofs.Places.{cell_within}
 
 -- ---- a level of the grid

@@ -17,7 +17,7 @@ use Rattle.cell_grid.proofs.Finds.{find_as, find_more}
 use Rattle.cell_grid.proofs.LevelPlaces.{HasLevelsOf, size_at}
 use Rattle.cell_grid.proofs.Indices.{place_there, index_within}
 use Rattle.cell_grid.proofs.Places.{cell_within}
-use Rattle.plane_base.proofs.BoxLemmas.{outer_has}
+use Rattle.plane_base.proofs.Bounds.BoxLemmas.{outer_has}
 use Rattle.cell_grid.proofs.Spans.{cut_has}
 
 -- ---- cells one after another

@@ -9,7 +9,7 @@ use Rattle.plane_base.specs.declared.shapes.Pt.{Pt}
 use Rattle.plane_base.specs.declared.shapes.Rect.{Rect}
 use Rattle.plane_base.specs.declared.shapes.TheConstants.{SPAN}
 use Rattle.plane_base.specs.Boxes.{HasPoint, HasBox, IsOrdered, box_of_boxes}
-use Rattle.plane_base.proofs.BoxLemmas.{joined_has, outer_box}
+use Rattle.plane_base.proofs.Bounds.BoxLemmas.{joined_has, outer_box}
 use Rattle.cell_grid.specs.Boxes.{IsWithinSpan, AreWithinSpan, no_box}
 use Rattle.cell_grid.specs.Stripes.{IsPast, IsPastCorner}
 use Rattle.cell_grid.specs.Around.{between, cut_of, put_of, corner_of}

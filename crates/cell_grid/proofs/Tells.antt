@@ -25,7 +25,7 @@ use Rattle.cell_grid.specs.InsideLevelPartners.{IsToldFrom}
 use Rattle.cell_grid.specs.InsideLevelPartners.{IsPartnerOn, IsPartnerAt, IsPartnerOnFirst}
 use Rattle.cell_grid.specs.declared.level_partners.PartnerSearch.{PartnerSearch}
 use Rattle.cell_grid.proofs.LevelPlaces.{HasLevelsOf, size_at, behind_at}
-use Rattle.plane_base.proofs.BoxLemmas.{meeting}
+use Rattle.plane_base.proofs.Bounds.BoxLemmas.{meeting}
 use Rattle.cell_grid.proofs.Indices.{place_there, index_within}
 
 -- ---- the least common point

@@ -7,7 +7,7 @@ use Rattle.std.proofs.lemmas.Int.{ints}
 use Rattle.std.proofs.lemmas.Nat.{le-div, div-add-mod', pow_pos, mod_below, div_below, same_from_place}
 use Rattle.plane_base.specs.declared.shapes.Rect.{Rect}
 use Rattle.plane_base.specs.Boxes.{IsOrdered, ShareAPoint}
-use Rattle.plane_base.proofs.BoxLemmas.{shared, meeting}
+use Rattle.plane_base.proofs.Bounds.BoxLemmas.{shared, meeting}
 use Rattle.cell_grid.specs.Stripes.{IsPastCorner}
 use Rattle.cell_grid.specs.Cells.{column_of, row_of}
 use Rattle.cell_grid.specs.InsideOffsets.{rect_of}

@@ -10,7 +10,7 @@ use Rattle.std.proofs.lemmas.Map.Steps.{length-le_from_distinct_below}
 use Rattle.plane_base.specs.declared.shapes.Pt.{Pt}
 use Rattle.tin_base.specs.Triangulation.{Triangulation}
 use Rattle.tin_base.specs.Segments.{Spot, at_a, IsNotAfter, IsPart}
-use Rattle.tin_base.proofs.Ends.{IsSpot, not_both, no_later, no_later_trans, from_same}
+use Rattle.tin_base.proofs.SegmentSpots.Ends.{IsSpot, not_both, no_later, no_later_trans, from_same}
 use Rattle.sheet_pieces.proofs.PartSequences.{same_or}
 use Rattle.cert_check.specs.Lines.{IsLine, HasNoLine}
 use Rattle.cert_check.specs.RightLists.{AreFollowing, IsOneWith, IsRightList}

@@ -11,7 +11,7 @@ use Rattle.plane_base.specs.declared.stretches.Stretch.{Stretch}
 use Rattle.tin_base.specs.Triangulation.{Triangulation}
 use Rattle.tin_base.specs.Soundness.{IsSound}
 use Rattle.tin_base.specs.Segments.{Spot, at_a, at_b, IsSameSpot, IsInside, IsPart}
-use Rattle.tin_base.proofs.Ends.{IsSpot, no_later_trans, up_to_same, from_same, same_of}
+use Rattle.tin_base.proofs.SegmentSpots.Ends.{IsSpot, no_later_trans, up_to_same, from_same, same_of}
 use Rattle.cert_check.specs.RightLists.{AreFollowing, IsOneWith, IsRightList}
 use Rattle.tin_base.specs.Slices.{spot_of}
 use Rattle.cert_check.specs.InsideSlices.{spot_behind, IsPartAt, HasNoPartAt, EndsAtParam}

@@ -4,17 +4,17 @@ use Rattle.std.proofs.Common.{◌≡◌, ◌≢◌, ◌⊎◌, inl, inr, ℕ, su
 use Rattle.std.proofs.Common.{arith}
 use Rattle.plane_base.specs.Plane.{whole}
 use Rattle.plane_base.specs.declared.shapes.Pt.{Pt}
-use Rattle.plane_base.proofs.Mixes.{mix_moved, between_weights}
+use Rattle.plane_base.proofs.MixLaws.Mixes.{mix_moved, between_weights}
 use Rattle.tin_base.specs.declared.frames.Frame.TheVariants.{Source}
 use Rattle.tin_base.specs.Triangulation.{Triangulation, numbers_of, places}
 use Rattle.tin_base.specs.Images.{IsInSome}
 use Rattle.tin_base.specs.Soundness.{IsSound}
 use Rattle.tin_base.specs.Segments.{Spot, spot_at, at_a, at_b, IsBefore, IsNotAfter, IsSameSpot, IsInside, IsPart, Part}
 use Rattle.tin_base.specs.Segments.{part_at, ArePieces, ArePiecesAt, ArePiecesOf, AreChain}
-use Rattle.tin_base.proofs.Ends.{IsSpot, before_or, no_later, no_later_trans, up_to_same, from_same}
-use Rattle.tin_base.proofs.Parts.{between_in}
-use Rattle.tin_base.proofs.Spots.{spot-w, first_inside, point_inside}
-use Rattle.tin_base.proofs.Chain.{chain}
+use Rattle.tin_base.proofs.SegmentSpots.Ends.{IsSpot, before_or, no_later, no_later_trans, up_to_same, from_same}
+use Rattle.tin_base.proofs.SegmentSpots.Parts.{between_in}
+use Rattle.tin_base.proofs.SegmentSpots.Spots.{spot-w, first_inside, point_inside}
+use Rattle.tin_base.proofs.PieceChains.Chain.{chain}
 use Rattle.sheet_pieces.proofs.PartSequences.{same_or}
 use Rattle.cert_check.specs.RightLists.{AreFollowing, IsOneWith, IsRightList}
 

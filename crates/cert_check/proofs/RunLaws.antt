@@ -5,7 +5,7 @@ use Rattle.std.proofs.lemmas.List.{take_more, take_all, length-append, length-ma
 use Rattle.plane_base.specs.Plane.{whole}
 use Rattle.plane_base.specs.declared.shapes.Pt.{Pt}
 use Rattle.plane_base.specs.declared.stretches.Stretch.{Stretch}
-use Rattle.plane_base.proofs.Mixes.{same_sym, mix_moved}
+use Rattle.plane_base.proofs.MixLaws.Mixes.{same_sym, mix_moved}
 use Rattle.sheet_base.specs.PointHeights.{Height, Position, points_of, heights_of}
 use Rattle.sheet_base.specs.ReadBack.{Ends}
 use Rattle.tin_base.specs.declared.frames.Frame.TheVariants.{Source}
@@ -15,12 +15,12 @@ use Rattle.tin_base.specs.Soundness.{IsSound}
 use Rattle.tin_base.specs.Segments.{Spot, spot_at, at_a, at_b, IsSameSpot, IsInside, IsShared, IsPart, Part}
 use Rattle.tin_base.specs.Segments.{ArePiecesAt, ArePiecesOf, part_at}
 use Rattle.tin_base.specs.Slices.{spot_of, IsSliceIn}
-use Rattle.tin_base.proofs.Apart.{same_last}
-use Rattle.tin_base.proofs.Ends.{IsSpot, before_trans_left, before_trans_right, same_of}
-use Rattle.tin_base.proofs.Outcomes.{outcome}
-use Rattle.tin_base.proofs.Params.{spot_some, below}
-use Rattle.tin_base.proofs.SlicedParts.{HasParams, params, within, part_told}
-use Rattle.tin_base.proofs.Spots.{spot-w, spot_first, spot_last}
+use Rattle.tin_base.proofs.PieceChains.Apart.{same_last}
+use Rattle.tin_base.proofs.SegmentSpots.Ends.{IsSpot, before_trans_left, before_trans_right, same_of}
+use Rattle.tin_base.proofs.PieceChains.Outcomes.{outcome}
+use Rattle.tin_base.proofs.SegmentSpots.Params.{spot_some, below}
+use Rattle.tin_base.proofs.SegmentSpots.SlicedParts.{HasParams, params, within, part_told}
+use Rattle.tin_base.proofs.SegmentSpots.Spots.{spot-w, spot_first, spot_last}
 use Rattle.affine_image.specs.RoundedImages.{IsRoundedImage, IsRoundedImageAt}
 use Rattle.affine_image.proofs.PlaceImages.{rounded_moved}
 use Rattle.sheet_pieces.specs.SheetImages.{AreEndsOfAllButLast}

@@ -14,8 +14,8 @@ use Rattle.sheet_base.specs.Splices.{splice_of}
 use Rattle.tin_base.specs.Triangulation.{Triangulation}
 use Rattle.tin_base.specs.Soundness.{IsSound}
 use Rattle.tin_base.specs.Segments.{Spot, at_a, at_b, IsSameSpot, IsPart}
-use Rattle.tin_base.proofs.Ends.{IsSpot, same_of}
-use Rattle.tin_base.proofs.Outcomes.{BeginsAt, begins_or, has_or}
+use Rattle.tin_base.proofs.SegmentSpots.Ends.{IsSpot, same_of}
+use Rattle.tin_base.proofs.PieceChains.Outcomes.{BeginsAt, begins_or, has_or}
 use Rattle.sheet_pieces.specs.SheetSegments.{SheetSegment, sheet_segments}
 use Rattle.sheet_pieces.specs.SheetImages.{AreImagesOf}
 use Rattle.sheet_pieces.proofs.PartSequences.{same_or}

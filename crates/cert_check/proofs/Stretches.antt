@@ -13,9 +13,9 @@ use Rattle.tin_base.specs.Triangulation.{Triangulation, numbers_of, places}
 use Rattle.tin_base.specs.Limits.{IsWithinLimits}
 use Rattle.tin_base.specs.Segments.{Spot, spot_at, IsInside, IsShared}
 use Rattle.tin_base.specs.Slices.{spot_of, IsSliceIn, AreNearTriangle}
-use Rattle.tin_base.proofs.SegmentSlices.{in_spot}
-use Rattle.tin_base.proofs.Params.{same_spot}
-use Rattle.tin_base.proofs.SlicedParts.{part_told, params}
+use Rattle.tin_base.proofs.SegmentSpots.SegmentSlices.{in_spot}
+use Rattle.tin_base.proofs.SegmentSpots.Params.{same_spot}
+use Rattle.tin_base.proofs.SegmentSpots.SlicedParts.{part_told, params}
 use Rattle.cert_check.specs.InsideSlices.{IsPartAt}
 
 -- ---- a triangle without a common point shares no spot

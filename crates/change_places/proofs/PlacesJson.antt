@@ -3,7 +3,7 @@ use Rattle.std.proofs.Common.{◌≡◌, ℕ, [], ◌∷◌, IsUtf8, ◌<◌, �
 use Rattle.std.proofs.Common.{arith, suc}
 use Rattle.std.specs.List.{AllByRecursion}
 use Rattle.jtext.specs.Texts.{IsWhole}
-use Rattle.jtext.proofs.OneValue.{one_value}
+use Rattle.jtext.proofs.CallerLemmas.OneValue.{one_value}
 use Rattle.report_text.specs.Reports.{IsPrintable}
 use Rattle.change_places.specs.Words.{ChangeWords, RingWords}
 use Rattle.change_places.specs.PlacesText.{places_text}

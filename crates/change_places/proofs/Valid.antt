@@ -13,7 +13,7 @@ use Rattle.std.specs.Str.{chars}
 use Rattle.plain_laws.proofs.Lists.{all_append}
 use Rattle.mm_decimal.specs.MetresTexts.{mm_text}
 use Rattle.jtext.specs.Numbers.{IsDigit, IsNumber}
-use Rattle.jtext.proofs.DecimalTexts.{decimal_written, decimal_number, thousandths_number}
+use Rattle.jtext.proofs.CallerLemmas.DecimalTexts.{decimal_written, decimal_number, thousandths_number}
 use Rattle.jtext.specs.Characters.{unescaped, escaped, IsChar, AreChars, IsUnescaped, low, middle, high, two}
 use Rattle.jtext.specs.Characters.{three_first, three_lower, three_before, three_upper, four_first, four, four_last}
 use Rattle.jtext.specs.Values.{Json, null, quoted, Members, Elements, no_element, element, AreBlank, IsArrayBlank, IsValue}

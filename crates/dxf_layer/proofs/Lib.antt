@@ -1,22 +1,6 @@
--- The files of lemmas of dxf_layer.
+-- The lemmas of dxf_layer, in folders by subject.
+mod EntityWalks
+mod SheetEdits
+mod WrittenDrawings
+mod Outcomes
 mod Rows
-mod WalkSteps
-mod EditMoves
-mod Visits
-mod StepGroups
-mod SheetOrder
-mod WalkedSheets
-mod EntityCases
-mod StepWritten
-mod WalkTrails
-mod EntitiesAgain
-mod WrittenWalks
-mod DrawingsReadBack
-mod LightWritten
-mod WrittenPairs
-mod EachEdit
-mod GivenHandles
-mod WrittenCopies
-mod DrawingOutcomes
-mod ReadSheets
-mod MemoryFaults

@@ -1,7 +1,7 @@
 -- The text of faults on the map is that of their value, and of no other.
 use Rattle.std.proofs.Common.{inr, inl, refl, sym}
 use Rattle.jtext.specs.Texts.{IsWhole}
-use Rattle.jtext.proofs.OneValue.{one_value}
+use Rattle.jtext.proofs.CallerLemmas.OneValue.{one_value}
 use Rattle.fault_runs.specs.FaultsText.{faults_text}
 use Rattle.fault_runs.specs.FaultsValue.{faults_whole}
 use Rattle.fault_runs.specs.Laws.{FaultsAreJson, faults_depth}

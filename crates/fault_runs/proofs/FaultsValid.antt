@@ -9,7 +9,7 @@ use Rattle.tin_base.specs.declared.frames.Frame.{Frame}
 use Rattle.tin_base.specs.declared.frames.Frame.TheVariants.{Source, Target}
 use Rattle.jtext.specs.Characters.{AreChars, IsChar, unescaped, low}
 use Rattle.jtext.specs.Values.{Members, IsValue, AreElements, AreMembers}
-use Rattle.jtext.proofs.DecimalTexts.{decimal_number}
+use Rattle.jtext.proofs.CallerLemmas.DecimalTexts.{decimal_number}
 use Rattle.change_places.specs.PlacesValue.{plain}
 use Rattle.change_places.specs.Laws.{IsPointHeld}
 use Rattle.change_places.proofs.Valid.{literal, point_is, one_point_is, either_is, feature_by, line_feed, no_blank}

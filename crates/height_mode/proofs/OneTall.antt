@@ -5,11 +5,11 @@ use Rattle.sheet_base.specs.declared.flags.How.{How}
 use Rattle.tin_base.specs.Soundness.{IsSound}
 use Rattle.tin_check.specs.Faults.{IsFirstFault}
 use Rattle.tin_check.specs.declared.faults.CheckFault.{CheckFault}
-use Rattle.tin_check.proofs.FirstFault.{unsound, one_first}
+use Rattle.tin_check.proofs.CallerLemmas.FirstFault.{unsound, one_first}
 use Rattle.tin_file.specs.declared.tall_files.Tall.{Tall}
 use Rattle.tin_file.specs.declared.faults.TinFault.{TinFault}
 use Rattle.tin_file.specs.declared.faults.TinFault.TheVariants.{NoMemory as TinMemory}
-use Rattle.tin_file.proofs.OneAnswer.{tall_answer_is_one}
+use Rattle.tin_file.proofs.CallerLemmas.OneAnswer.{tall_answer_is_one}
 use Rattle.runs.specs.declared.refusal.Refusal.{Refusal}
 use Rattle.runs.specs.declared.refusal.Refusal.TheVariants.{TinUnread, TinLong, Tin, Check}
 use Rattle.runs.specs.Triangulations.{HasFile, HasLongFile}

@@ -12,8 +12,8 @@ use Rattle.jtext.specs.Lookups.{are_same, entries_of_key}
 use Rattle.jtext.specs.declared.document.Doc.{Doc}
 use Rattle.jtext.specs.declared.document.Node.{Node}
 use Rattle.jtext.specs.declared.json_texts.TheConstants.{DEEPEST}
-use Rattle.jtext.proofs.NodePlaces.{ElementsStand, array_stands, element_stands, rest_stands, object_stands, text_there}
-use Rattle.jtext.proofs.NodePlaces.{reading_stands}
+use Rattle.jtext.proofs.CallerLemmas.NodePlaces.{ElementsStand, array_stands, element_stands, rest_stands, object_stands, text_there}
+use Rattle.jtext.proofs.CallerLemmas.NodePlaces.{reading_stands}
 use Rattle.layer_features.specs.declared.features.Feature.{Feature}
 use Rattle.layer_features.specs.declared.features.TextPart.{TextPart}
 use Rattle.layer_features.specs.JsonFeatures.{only, member_of, says, part_of, member_inside, name_of}

@@ -11,7 +11,7 @@ use Rattle.jtext.specs.Places.{Entry, HasNodesAt, IsReadFrom}
 use Rattle.jtext.specs.declared.document.Doc.{Doc}
 use Rattle.jtext.specs.declared.document.Node.{Node}
 use Rattle.jtext.specs.declared.document.Kind.TheVariants as kinds
-use Rattle.jtext.proofs.NodePlaces.{ElementsStand, array_stands, element_stands, rest_stands, node_count_positive}
+use Rattle.jtext.proofs.CallerLemmas.NodePlaces.{ElementsStand, array_stands, element_stands, rest_stands, node_count_positive}
 use Rattle.layer_features.specs.declared.features.Feature.{Feature}
 use Rattle.layer_features.specs.declared.features.TextPart.{TextPart}
 use Rattle.layer_features.specs.declared.features.Label.TheVariants.{Number}

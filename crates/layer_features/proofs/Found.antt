@@ -12,9 +12,9 @@ use Rattle.jtext.specs.declared.document.Doc.{Doc}
 use Rattle.jtext.specs.declared.document.Node.{Node}
 use Rattle.jtext.specs.declared.document.Kind.TheVariants as kinds
 use Rattle.jtext.specs.declared.lookup.Repeat.{Repeat}
-use Rattle.jtext.proofs.NodePlaces.{MembersStand, object_stands, member_stands, members_rest_stand, first_there}
-use Rattle.jtext.proofs.NodePlaces.{node_stands, reading_stands}
-use Rattle.jtext.proofs.SameTexts.{says_quoted}
+use Rattle.jtext.proofs.CallerLemmas.NodePlaces.{MembersStand, object_stands, member_stands, members_rest_stand, first_there}
+use Rattle.jtext.proofs.CallerLemmas.NodePlaces.{node_stands, reading_stands}
+use Rattle.jtext.proofs.CallerLemmas.SameTexts.{says_quoted}
 use Rattle.layer_features.specs.JsonFeatures.{only, member_of, is_saying}
 use Rattle.layer_features.specs.InsideNodes.{IsFoundAs}
 

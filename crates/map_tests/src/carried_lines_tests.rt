@@ -4,7 +4,7 @@ ghost use Rattle.std.specs.Prelude.{◌≤◌, ◌^◌, length};
 
 use crate::largest_maps::{CELLS, lines_of_cells};
 use carry_map::{Carried, MOST_PIECES, carry_layer};
-use migrate::make_tin;
+use migrate_mode::make_tin;
 use sheet_base::How;
 use std::alloc::{AllocError, Global};
 use tin_check::check_tin;

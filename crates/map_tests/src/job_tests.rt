@@ -5,7 +5,7 @@ use crate::largest_maps::{add_file, lines_of_cells, shelf_of_cells};
 use check_mode::prepare_check;
 use height_mode::{HeightJob, prepare_heights};
 use job_words::{Job, read_words};
-use migrate::{Migration, prepare_making, prepare_migration};
+use migrate_mode::{Migration, prepare_making, prepare_migration};
 use runs::RunOutput;
 use shelf_io::MemShelf;
 use std::alloc::{AllocError, Global};

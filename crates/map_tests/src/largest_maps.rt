@@ -2,7 +2,7 @@
 
 ghost use Rattle.std.specs.Prelude.{◌<◌};
 
-use migrate::make_tin;
+use migrate_mode::make_tin;
 use shelf_io::{MemShelf, Shelf};
 use std::alloc::{AllocError, Global};
 

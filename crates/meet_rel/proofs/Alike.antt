@@ -1,7 +1,7 @@
 -- Segments with the same common points and the same ends have the same relation.
 use Rattle.std.proofs.Common.{inl, inr}
 use Rattle.plane_base.specs.Plane.{Point}
-use Rattle.plane_base.proofs.Mixes.{mix_swapped}
+use Rattle.plane_base.proofs.MixLaws.Mixes.{mix_swapped}
 use Rattle.tin_base.specs.declared.relations.Rel.{Rel}
 use Rattle.tin_base.specs.declared.relations.Rel.TheVariants.{Apart, Touching, Crossing, Overlapping}
 use Rattle.tin_base.specs.Relations.{IsCommonPoint, IsOnlyCommonPoint, IsAnEnd, HaveRelation}

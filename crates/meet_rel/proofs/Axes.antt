@@ -9,8 +9,8 @@ use Rattle.integer_ring.proofs.Claims.{◌≐◌, ◌≼◌, ◌≺◌, gap, ove
 use lib.Signed.{lt_z_yes}
 use Rattle.plane_base.specs.Plane.{Point, turn_of, whole}
 use Rattle.plane_base.specs.declared.shapes.Pt.{Pt}
-use Rattle.plane_base.proofs.Points.{turn, solve_at}
-use Rattle.plane_base.proofs.Turns.{turn_cycle, turn_swap}
+use Rattle.plane_base.proofs.MixLaws.Points.{turn, solve_at}
+use Rattle.plane_base.proofs.MixLaws.Turns.{turn_cycle, turn_swap}
 use Rattle.tin_base.specs.declared.relations.Rel.{Rel}
 use Rattle.tin_base.specs.declared.relations.Rel.TheVariants.{Apart, Touching, Crossing, Overlapping}
 use Rattle.tin_base.specs.Relations.{HaveRelation}

@@ -5,7 +5,7 @@ use lib.Signed.{lt_z}
 use Rattle.plane_base.specs.Boxes.{AreApart, box_of_segment}
 use Rattle.plane_base.specs.Plane.{whole}
 use Rattle.plane_base.specs.declared.shapes.Pt.{Pt}
-use Rattle.plane_base.proofs.BoxLemmas.{between_in, none_in_both}
+use Rattle.plane_base.proofs.Bounds.BoxLemmas.{between_in, none_in_both}
 use Rattle.tin_base.specs.declared.relations.Rel.TheVariants.{Apart}
 use Rattle.tin_base.specs.Relations.{HaveRelation}
 use Rattle.meet_rel.specs.Signs.{AreBelow}

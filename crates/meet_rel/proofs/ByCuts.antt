@@ -7,8 +7,8 @@ use Rattle.frac128.specs.Fractions.{IsAtMost, IsBelow, IsSameValue}
 use Rattle.frac128.specs.declared.frac.Frac.{Frac}
 use Rattle.plane_base.specs.Plane.{Point, Same, IsMix, whole, turn_of}
 use Rattle.plane_base.specs.declared.shapes.Pt.{Pt}
-use Rattle.plane_base.proofs.Turns.{turn_twice}
-use Rattle.plane_base.proofs.Mixes.{same_refl, same_sym, same_trans, mix_moved}
+use Rattle.plane_base.proofs.MixLaws.Turns.{turn_twice}
+use Rattle.plane_base.proofs.MixLaws.Mixes.{same_refl, same_sym, same_trans, mix_moved}
 use Rattle.tin_base.specs.declared.relations.Rel.{Rel}
 use Rattle.tin_base.specs.declared.relations.Rel.TheVariants.{Apart, Touching, Crossing, Overlapping}
 use Rattle.tin_base.specs.Relations.{IsCommonPoint, IsAnEnd, HaveRelation}

@@ -3,8 +3,8 @@ use Rattle.std.proofs.Common.{◌≡◌, ◌≢◌, ◌⊎◌, inl, inr, ℕ, �
 use Rattle.std.proofs.Common.{length, sym, subst, arith}
 use Rattle.plane_base.specs.Plane.{Point, Same, IsMix, whole, corners_of}
 use Rattle.plane_base.specs.declared.shapes.Pt.{Pt}
-use Rattle.plane_base.proofs.Mixes.{same_refl, same_sym, same_trans, Between, between_weights, weights_between}
-use Rattle.plane_base.proofs.Mixes.{mix_moved, mixes_mix, turn_on_side}
+use Rattle.plane_base.proofs.MixLaws.Mixes.{same_refl, same_sym, same_trans, Between, between_weights, weights_between}
+use Rattle.plane_base.proofs.MixLaws.Mixes.{mix_moved, mixes_mix, turn_on_side}
 use Rattle.tin_base.specs.declared.frames.Frame.TheVariants.{Source}
 use Rattle.tin_base.specs.declared.pieces.Piece.{Piece}
 use Rattle.tin_base.specs.Triangulation.{Triangulation, numbers_of, places, IsInTriangle}
@@ -12,9 +12,9 @@ use Rattle.tin_base.specs.Segments.{Spot, Part, at_a, spot_at, IsShared, IsPart}
 use Rattle.tin_base.specs.Pieces.{IsPieceOf, first_point, last_point}
 use Rattle.tin_base.specs.declared.relations.Rel.TheVariants.{Apart}
 use Rattle.tin_base.specs.Relations.{HaveRelation}
-use Rattle.tin_base.proofs.Spots.{one, spot-w, spot_first}
-use Rattle.tin_base.proofs.Closeness.{places_stand}
-use Rattle.tin_base.proofs.Overlap.{at_twice}
+use Rattle.tin_base.proofs.SegmentSpots.Spots.{one, spot-w, spot_first}
+use Rattle.tin_base.proofs.TriangleLemmas.Closeness.{places_stand}
+use Rattle.tin_base.proofs.PieceChains.Overlap.{at_twice}
 use Rattle.meet_rel.specs.declared.clips.Clip.{Clip}
 use Rattle.meet_rel.specs.Clips.{IsOf, AreEnds}
 use Rattle.meet_rel.proofs.Axes.{same_or_not}

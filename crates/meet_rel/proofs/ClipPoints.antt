@@ -8,8 +8,8 @@ use Rattle.plane_base.specs.Slices.{IsParam, IsIn, IsCommon}
 use Rattle.plane_base.specs.Laws.{HasParameter}
 use Rattle.plane_base.specs.declared.shapes.Pt.{Pt}
 use Rattle.plane_base.specs.declared.stretches.Stretch.{Stretch}
-use Rattle.plane_base.proofs.Mixes.{same_refl, same_sym, mix_moved, mix_swapped, mixes_mix, turn_on_side}
-use Rattle.plane_base.proofs.Parameters.{segments_have_parameters}
+use Rattle.plane_base.proofs.MixLaws.Mixes.{same_refl, same_sym, mix_moved, mix_swapped, mixes_mix, turn_on_side}
+use Rattle.plane_base.proofs.MixLaws.Parameters.{segments_have_parameters}
 use Rattle.meet_rel.specs.declared.clips.Clip.{Clip}
 use Rattle.meet_rel.specs.Clips.{IsOf, at, IsCut, StandsAt}
 use Rattle.meet_rel.proofs.Scale.{Scale, IsOn, IsUpTo, up_to_trans, level_up, level_down, same_level, up_or}

@@ -9,10 +9,10 @@ use Rattle.integer_ring.proofs.Signs.{zero_cases}
 use Rattle.plane_base.specs.Plane.{Point, Same, turn_of, weighted_sum, IsMix, whole, corners_of}
 use Rattle.plane_base.specs.declared.shapes.Pt.{Pt}
 use Rattle.plane_base.specs.declared.shapes.Tri.{Tri}
-use Rattle.plane_base.proofs.Turns.{turn_cycle, turn_swap}
-use Rattle.plane_base.proofs.Mixes.{same_sym, same_moved, mixed, Between, between_weights, mix_swapped}
-use Rattle.plane_base.proofs.InTriangle.{turns_of_mix}
-use Rattle.plane_base.proofs.CommonPoints.{mix_of_side}
+use Rattle.plane_base.proofs.MixLaws.Turns.{turn_cycle, turn_swap}
+use Rattle.plane_base.proofs.MixLaws.Mixes.{same_sym, same_moved, mixed, Between, between_weights, mix_swapped}
+use Rattle.plane_base.proofs.TriangleLaws.InTriangle.{turns_of_mix}
+use Rattle.plane_base.proofs.TriangleLaws.CommonPoints.{mix_of_side}
 use Rattle.tin_base.specs.declared.relations.Rel.{Rel}
 use Rattle.tin_base.specs.declared.relations.Rel.TheVariants.{Touching, Crossing}
 use Rattle.tin_base.specs.Relations.{IsCommonPoint, IsOnlyCommonPoint, IsAnEnd, HaveRelation}

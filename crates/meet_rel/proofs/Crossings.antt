@@ -9,9 +9,9 @@ use Rattle.integer_ring.proofs.Claims.{◌≐◌, ◌≼◌, ◌≺◌, never, g
 use lib.Signed.{lt_z_yes}
 use Rattle.plane_base.specs.Plane.{Point, Same, turn_of, IsMix, whole}
 use Rattle.plane_base.specs.declared.shapes.Pt.{Pt}
-use Rattle.plane_base.proofs.Points.{turn, solve_at}
-use Rattle.plane_base.proofs.Mixes.{same_refl, same_sym, mixed, Between, between_weights, weights_between, between-w}
-use Rattle.plane_base.proofs.Mixes.{mix_moved, turn_on_side}
+use Rattle.plane_base.proofs.MixLaws.Points.{turn, solve_at}
+use Rattle.plane_base.proofs.MixLaws.Mixes.{same_refl, same_sym, mixed, Between, between_weights, weights_between, between-w}
+use Rattle.plane_base.proofs.MixLaws.Mixes.{mix_moved, turn_on_side}
 use Rattle.tin_base.specs.declared.relations.Rel.TheVariants.{Apart, Touching, Crossing}
 use Rattle.tin_base.specs.Relations.{IsCommonPoint, IsAnEnd, HaveRelation}
 use Rattle.meet_rel.specs.Signs.{AreOnOneSide, IsSomeZero}

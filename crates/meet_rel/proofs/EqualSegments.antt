@@ -1,7 +1,7 @@
 -- Segments that have the same points have the same ends, and the same relations.
 use Rattle.std.proofs.Common.{◌⊎◌, inl, inr, pos, ◌<ℤ◌, [], ◌∷◌}
 use Rattle.plane_base.specs.Plane.{Point, Same, IsMix}
-use Rattle.plane_base.proofs.Mixes.{same_sym, same_trans, mix_swapped}
+use Rattle.plane_base.proofs.MixLaws.Mixes.{same_sym, same_trans, mix_swapped}
 use Rattle.tin_base.specs.declared.relations.Rel.{Rel}
 use Rattle.tin_base.specs.Relations.{IsAnEnd, HaveRelation}
 use Rattle.meet_rel.proofs.Alike.{alike}

@@ -1,7 +1,7 @@
 -- Two segments have one relation and no other.
 use Rattle.std.proofs.Common.{inl, inr, pos, ◌<ℤ◌, refl}
 use Rattle.plane_base.specs.Plane.{Point, Same}
-use Rattle.plane_base.proofs.Mixes.{same_sym, same_trans}
+use Rattle.plane_base.proofs.MixLaws.Mixes.{same_sym, same_trans}
 use Rattle.tin_base.specs.declared.relations.Rel.TheVariants.{Apart, Touching, Crossing, Overlapping}
 use Rattle.tin_base.specs.Relations.{IsCommonPoint, IsOnlyCommonPoint, IsAnEnd}
 use Rattle.meet_rel.specs.Laws.{RelationsAreExclusive}

@@ -9,7 +9,7 @@ use Rattle.integer_ring.proofs.Claims.{◌≐◌, eqn, ◌⊞◌, ◌because◌,
 use Rattle.frac128.specs.declared.frac.Frac.{Frac}
 use Rattle.plane_base.specs.Plane.{turn_of, whole, IsNear, IsNearTri}
 use Rattle.plane_base.specs.declared.shapes.Pt.{Pt}
-use Rattle.plane_base.proofs.Points.{turn, solve_at}
+use Rattle.plane_base.proofs.MixLaws.Points.{turn, solve_at}
 use Rattle.meet_rel.specs.declared.clips.Clip.{Clip}
 use Rattle.meet_rel.specs.Clips.{IsPointBefore, IsNotAfter, IsOneOf, AreOuter, IsWayFor, StandsAt}
 use Rattle.meet_rel.specs.Near.{AreNear}

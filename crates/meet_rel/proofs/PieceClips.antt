@@ -9,13 +9,13 @@ use Rattle.tin_base.specs.Triangulation.{Triangulation}
 use Rattle.tin_base.specs.Images.{IsInSome}
 use Rattle.tin_base.specs.Limits.{IsWithinLimits}
 use Rattle.tin_base.specs.Pieces.{IsPieceInside, first_point, last_point}
-use Rattle.tin_base.proofs.Closeness.{near_inside}
+use Rattle.tin_base.proofs.TriangleLemmas.Closeness.{near_inside}
 use Rattle.meet_rel.specs.declared.clips.Clip.{Clip}
 use Rattle.meet_rel.specs.Near.{AreNear}
 use Rattle.meet_rel.specs.Clips.{IsProper, AreClose}
 use Rattle.meet_rel.proofs.Scale.{mix_first}
 use Rattle.meet_rel.proofs.ClipEnds.{IsClipOf, piece_ends, has_ends}
-use Rattle.tin_base.proofs.NearTriangles.{corner_axis, second_axis, third_axis}
+use Rattle.tin_base.proofs.TriangleLemmas.NearTriangles.{corner_axis, second_axis, third_axis}
 
 at_a : (t : Tri) → IsMix (whole t.a) (corners_of t)
 at_a t = (1 ∷ 0 ∷ 0 ∷ [], refl, omega arith, (corner_axis t.a.x t.b.x t.c.x, corner_axis t.a.y t.b.y t.c.y))

@@ -5,8 +5,8 @@ use Rattle.tin_base.specs.Triangulation.{Triangulation}
 use Rattle.tin_base.specs.Segments.{Part}
 use Rattle.tin_base.specs.Pieces.{IsPieceOf, first_point, last_point}
 use Rattle.tin_base.specs.CarriedSegments.{IsCarried}
-use Rattle.tin_base.proofs.Agreement.{each_has_image}
-use Rattle.tin_base.proofs.SegmentImages.{relation_kept}
+use Rattle.tin_base.proofs.FrameImages.Agreement.{each_has_image}
+use Rattle.tin_base.proofs.FrameImages.SegmentImages.{relation_kept}
 use Rattle.meet_rel.specs.Laws.{AreImages, PiecesKeepRelations}
 use Rattle.meet_rel.proofs.ClipEnds.{has_ends}
 

@@ -10,10 +10,10 @@ use Rattle.integer_ring.proofs.Claims.{◌≐◌, ◌≼◌, ◌≺◌, gap, ove
 use Rattle.integer_ring.proofs.Claims.{solve}
 use Rattle.plane_base.specs.Plane.{Point, Same, turn_of, IsMix, whole}
 use Rattle.plane_base.specs.declared.shapes.Pt.{Pt}
-use Rattle.plane_base.proofs.Points.{turn, plus, nothing, solve_at}
-use Rattle.plane_base.proofs.Turns.{turn_same}
-use Rattle.plane_base.proofs.Mixes.{mixed, Between, between_weights, weights_between, between-w, same_refl, mix_moved}
-use Rattle.plane_base.proofs.Mixes.{mix_swapped}
+use Rattle.plane_base.proofs.MixLaws.Points.{turn, plus, nothing, solve_at}
+use Rattle.plane_base.proofs.MixLaws.Turns.{turn_same}
+use Rattle.plane_base.proofs.MixLaws.Mixes.{mixed, Between, between_weights, weights_between, between-w, same_refl, mix_moved}
+use Rattle.plane_base.proofs.MixLaws.Mixes.{mix_swapped}
 use Rattle.plain_laws.proofs.Weights.{zero_mix, zero_factor}
 
 -- two whole points, and a direction whose share is not the same at both

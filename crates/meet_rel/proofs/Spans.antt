@@ -1,7 +1,7 @@
 -- Two segments of one line: by the later of their first points and the earlier of their last points.
 use Rattle.std.proofs.Common.{◌≡◌, ◌⊎◌, inl, inr, subst, sym, arith}
 use Rattle.plane_base.specs.Plane.{Point, Same}
-use Rattle.plane_base.proofs.Mixes.{same_refl}
+use Rattle.plane_base.proofs.MixLaws.Mixes.{same_refl}
 use Rattle.tin_base.specs.declared.relations.Rel.TheVariants.{Apart, Touching, Overlapping}
 use Rattle.tin_base.specs.Relations.{IsCommonPoint, IsAnEnd, HaveRelation}
 use Rattle.meet_rel.proofs.Scale.{Scale, IsOn, IsUpTo, IsLessFar, IsLevel, up_to_trans, level_up, level_down, level_of}

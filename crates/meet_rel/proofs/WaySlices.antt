@@ -8,8 +8,8 @@ use Rattle.plane_base.specs.Slices.{IsIn, IsCommon, slice_of}
 use Rattle.plane_base.specs.declared.shapes.Pt.{Pt}
 use Rattle.plane_base.specs.declared.shapes.Tri.{Tri}
 use Rattle.plane_base.specs.declared.stretches.Stretch.{Stretch}
-use Rattle.plane_base.proofs.Mixes.{same_sym, mix_moved, mixes_mix}
-use Rattle.plane_base.proofs.Parameters.{segments_have_parameters}
+use Rattle.plane_base.proofs.MixLaws.Mixes.{same_sym, mix_moved, mixes_mix}
+use Rattle.plane_base.proofs.MixLaws.Parameters.{segments_have_parameters}
 use Rattle.meet_rel.specs.declared.clips.Clip.{Clip}
 use Rattle.meet_rel.specs.Clips.{IsProper, StandsAt}
 

@@ -8,8 +8,8 @@ use Rattle.frac128.specs.Fractions.{IsAtMost, IsBelow}
 use Rattle.frac128.specs.declared.frac.Frac.{Frac}
 use Rattle.plane_base.specs.Plane.{Point, turn_of, whole, along}
 use Rattle.plane_base.specs.declared.shapes.Pt.{Pt}
-use Rattle.plane_base.proofs.Points.{turn, solve_at}
-use Rattle.plane_base.proofs.Along.{along_e, along-w}
+use Rattle.plane_base.proofs.MixLaws.Points.{turn, solve_at}
+use Rattle.plane_base.proofs.MixLaws.Along.{along_e, along-w}
 use Rattle.tin_base.specs.Segments.{Spot, spot_at}
 use Rattle.meet_rel.specs.Clips.{at}
 use Rattle.meet_rel.proofs.Scale.{Scale, IsOn, IsUpTo, IsLessFar}

@@ -2,10 +2,10 @@
 use Rattle.std.proofs.Common.{◌≡◌, ◌⊎◌, inl, inr, [], ◌∷◌, arith}
 use Rattle.plane_base.specs.Plane.{Point, IsMix, whole, corners_of}
 use Rattle.plane_base.specs.declared.shapes.Pt.{Pt}
-use Rattle.plane_base.proofs.Mixes.{mixes_mix, turn_on_side}
+use Rattle.plane_base.proofs.MixLaws.Mixes.{mixes_mix, turn_on_side}
 use Rattle.tin_base.specs.declared.relations.Rel.{Rel}
 use Rattle.tin_base.specs.Relations.{HaveRelation}
-use Rattle.tin_base.proofs.Spots.{one}
+use Rattle.tin_base.proofs.SegmentSpots.Spots.{one}
 use Rattle.meet_rel.specs.declared.clips.Clip.{Clip}
 use Rattle.meet_rel.specs.Clips.{AreEnds, IsWhole}
 use Rattle.meet_rel.proofs.Scale.{IsOn, mix_first, mix_last}

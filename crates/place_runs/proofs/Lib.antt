@@ -1,27 +1,4 @@
--- The files of lemmas of place_runs.
-mod LayerPlaces
-mod WordsOfPlaces
-mod PrintedNames
-mod Filters
-mod ChangePieces
-mod SideSpots
-mod SideOutcomes
-mod OneSpot
-mod MoreEntries
-mod MapParts
-mod HeldBytes
-mod MapPrints
-mod MapTexts
-mod PieceOrder
-mod OneOutcome
-mod RunEnds
-mod TextLimits
-mod SomeOutcome
-mod PathEdits
-mod PathSpots
-mod PathWords
-mod WktPaths
-mod GeoJsonPaths
-mod DrawingPaths
-mod KnownSides
-mod KnownRings
+-- The lemmas of place_runs, in folders by subject.
+mod LayerPaths
+mod PrintedMaps
+mod Outcomes

@@ -8,7 +8,7 @@ use Rattle.runs.specs.declared.refusal.Refusal.{Refusal}
 use Rattle.runs.specs.declared.refusal.Refusal.TheVariants.{NoMemory}
 use Rattle.runs.specs.Refusals.{Refuses}
 use Rattle.publication.specs.RunEnds.{EndsSo}
-use Rattle.migrate.specs.Migrations.{IsReachedBy, LacksWanted}
+use Rattle.migrate_mode.specs.Migrations.{IsReachedBy, LacksWanted}
 use Rattle.place_runs.specs.declared.requests.Request.{Request}
 use Rattle.place_runs.specs.Words.{AsksPlaces}
 use Rattle.place_runs.specs.Outcome.{HasOutcome}

@@ -14,7 +14,7 @@ use Rattle.runs.specs.Counts.{ShelfCounts, HasFailed}
 use Rattle.runs.specs.Refusals.{status_of, line_file}
 use Rattle.publication.specs.Fronts.{IsFrontOf}
 use Rattle.publication.specs.RunEnds.{IsHandedOut}
-use Rattle.migrate.specs.Migrations.{LacksWanted, MayRefuseMigration}
+use Rattle.migrate_mode.specs.Migrations.{LacksWanted, MayRefuseMigration}
 use Rattle.place_runs.specs.declared.requests.Request.{Request}
 use Rattle.place_runs.specs.Words.{AsksPlaces, LacksPlaces}
 use Rattle.place_runs.specs.Outcome.{HaveRows}

@@ -7,7 +7,7 @@ use Rattle.tin_base.specs.Triangulation.{Triangulation}
 use Rattle.job_words.specs.declared.formats.Format.{Format}
 use Rattle.runs.specs.declared.refusal.Refusal.{Refusal}
 use Rattle.layer_formats.specs.LayerOutcomes.{IsLayerText}
-use Rattle.migrate.specs.RunContents.{IsUncarried}
+use Rattle.migrate_mode.specs.RunContents.{IsUncarried}
 use Rattle.layer_features.specs.declared.features.Feature.{Feature}
 use Rattle.layer_features.specs.declared.features.Label.TheVariants.{Number}
 use Rattle.change_places.specs.declared.spots.PathSpot.{PathSpot}

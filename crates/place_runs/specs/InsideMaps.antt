@@ -9,8 +9,8 @@ use Rattle.tin_base.specs.declared.pieces.Place.{Place}
 use Rattle.change_places.specs.declared.spots.RingSpot.{RingSpot}
 use Rattle.tin_base.specs.Triangulation.{Triangulation}
 use Rattle.ring_side.specs.declared.kinds.SideChange.{SideChange}
-use Rattle.migrate.specs.declared.layer_runs.CarriedLayers.{CarriedLayers}
-use Rattle.migrate.specs.RunChanges.{AreListed, is_some_listed}
+use Rattle.migrate_mode.specs.declared.layer_runs.CarriedLayers.{CarriedLayers}
+use Rattle.migrate_mode.specs.RunChanges.{AreListed, is_some_listed}
 use Rattle.change_places.specs.Words.{PathText, ChangeText, RingText, layer_words, ring_words}
 use Rattle.change_places.specs.PlacesText.{places_text, opening_text, change_entry, ring_entry, end_text}
 use Rattle.change_places.specs.Laws.{IsChangeHeld}

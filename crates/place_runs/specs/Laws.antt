@@ -2,7 +2,7 @@
 use Rattle.std.specs.Prelude.{◌≡◌, ℕ, List, [], ◌∷◌}
 use Rattle.shelf_io.specs.Files.{Files}
 use Rattle.runs.specs.declared.status.Status.{Status}
-use Rattle.migrate.specs.declared.migrations.Migration.{Migration}
+use Rattle.migrate_mode.specs.declared.migrations.Migration.{Migration}
 use Rattle.ring_side.specs.declared.kinds.SideChange.{SideChange}
 use Rattle.ring_side.specs.declared.kinds.SideChange.TheVariants.{Turn, Point}
 use Rattle.change_places.specs.Words.{PathText, SideText, ChangeText, RingText}

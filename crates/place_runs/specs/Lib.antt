@@ -23,10 +23,10 @@ pub use Rattle.runs.specs.Counts
 pub use Rattle.runs.specs.Refusals
 pub use Rattle.publication.specs.Fronts
 pub use Rattle.publication.specs.RunEnds
-pub use Rattle.migrate.specs.LayerRuns
-pub use Rattle.migrate.specs.Migrations
-pub use Rattle.migrate.specs.RunChanges
-pub use Rattle.migrate.specs.SideLists
+pub use Rattle.migrate_mode.specs.LayerRuns
+pub use Rattle.migrate_mode.specs.Migrations
+pub use Rattle.migrate_mode.specs.RunChanges
+pub use Rattle.migrate_mode.specs.SideLists
 pub mod Words
 pub mod WrittenPaths
 pub mod SidePlaces

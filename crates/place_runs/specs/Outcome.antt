@@ -7,7 +7,7 @@ use Rattle.runs.specs.declared.status.Status.{Status}
 use Rattle.runs.specs.declared.refusal.Refusal.{Refusal}
 use Rattle.runs.specs.declared.refusal.Refusal.TheVariants.{Words}
 use Rattle.runs.specs.Refusals.{Refuses}
-use Rattle.migrate.specs.Migrations.{IsMigrationRefused}
+use Rattle.migrate_mode.specs.Migrations.{IsMigrationRefused}
 use Rattle.place_runs.specs.declared.requests.Request.{Request}
 use Rattle.place_runs.specs.Words.{AsksPlaces, LacksPlaces}
 use Rattle.place_runs.specs.Places.{IsPlacesDone, AreRowsOf}

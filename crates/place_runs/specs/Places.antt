@@ -22,11 +22,11 @@ use Rattle.layer_features.specs.DrawingFeatures.{AreDrawingFeatures}
 use Rattle.layer_features.specs.Laws.{part_text}
 use Rattle.job_words.specs.Formats.{format_by_name}
 use Rattle.runs.specs.declared.status.Status.{Status}
-use Rattle.migrate.specs.declared.migrations.Migration.{Migration}
+use Rattle.migrate_mode.specs.declared.migrations.Migration.{Migration}
 use Rattle.layer_formats.specs.LayerOutcomes.{IsLayerText}
-use Rattle.migrate.specs.LayerRuns.{setting_of, Done, AreCarried}
-use Rattle.migrate.specs.Migrations.{HasWay, row_of}
-use Rattle.migrate.specs.RunChanges.{AreListed, end_with}
+use Rattle.migrate_mode.specs.LayerRuns.{setting_of, Done, AreCarried}
+use Rattle.migrate_mode.specs.Migrations.{HasWay, row_of}
+use Rattle.migrate_mode.specs.RunChanges.{AreListed, end_with}
 use Rattle.change_places.specs.declared.spots.Style.{Style}
 use Rattle.ring_side.specs.declared.kinds.SideChange.{SideChange}
 use Rattle.change_places.specs.Words.{PathText, SideText, ChangeText, RingText, by_number, label_words}

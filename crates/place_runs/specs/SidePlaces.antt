@@ -9,8 +9,8 @@ use Rattle.ring_side.specs.declared.kinds.SideChange.TheVariants.{Turn, Point}
 use Rattle.ring_side.specs.SideChanges.{place_of}
 use Rattle.change_places.specs.PlacesText.{no_path}
 use Rattle.change_places.specs.Words.{PathText, RingText}
-use Rattle.migrate.specs.LayerRuns.{Setting}
-use Rattle.migrate.specs.SideLists.{AreKept, AreSideChanges}
+use Rattle.migrate_mode.specs.LayerRuns.{Setting}
+use Rattle.migrate_mode.specs.SideLists.{AreKept, AreSideChanges}
 use Rattle.place_runs.specs.WrittenPaths.{words_at}
 
 -- ---- one change

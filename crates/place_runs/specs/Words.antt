@@ -3,7 +3,7 @@ use Rattle.std.specs.Prelude.{◌≡◌, ℕ, false, List, codes, Result, Ok, Er
 use Rattle.job_words.specs.declared.faults.WordsFault.{WordsFault}
 use Rattle.job_words.specs.declared.places.PlacesJob.{PlacesJob}
 use Rattle.job_words.specs.PlacesJobs.{places_answer_of, ArePlacesNames}
-use Rattle.migrate.specs.declared.migrations.Migration.{Migration}
+use Rattle.migrate_mode.specs.declared.migrations.Migration.{Migration}
 use Rattle.place_runs.specs.declared.requests.Request.{Request}
 
 -- The migration writes nothing into the folder `.`.

@@ -8,7 +8,7 @@ pub fn outcome_is_one()
 {
     layer_formats::layer_texts_are_one();
     layer_features::features_are_one();
-    migrate::migration_is_one();
+    migrate_mode::migration_is_one();
 }
 
 /// A law: a run has an outcome, whatever the words and the files are. So with the law above it is one function of them.
@@ -16,7 +16,7 @@ pub fn outcome_exists()
     ensures { OutcomeExists }
 {
     job_words::places_jobs_are_kept();
-    migrate::migration_exists();
+    migrate_mode::migration_exists();
     layer_features::features_exist();
     seg_gap::gap_exists();
     seg_gap::nearest_end_exists();

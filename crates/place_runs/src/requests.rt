@@ -7,7 +7,7 @@ ghost use Rattle.place_runs.specs.Words.{AsksPlaces, LacksPlaces, MayBeCarried, 
 
 use crate::views::View;
 use job_words::{PlacesJob, WordsFault, read_places};
-use migrate::Migration;
+use migrate_mode::Migration;
 use shelf_io::Name;
 use std::alloc::Global;
 

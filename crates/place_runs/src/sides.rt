@@ -7,13 +7,13 @@ ghost use Rattle.tin_base.specs.declared.frames.Frame.TheVariants.{Target};
 ghost use Rattle.ring_side.specs.declared.kinds.SideChange.{SideChange as SideChangeOf};
 ghost use Rattle.ring_side.specs.SideChanges.{images_at, path_at, place_of, sheet_at};
 ghost use Rattle.change_places.specs.Words.{layer_words, ring_words};
-ghost use Rattle.migrate.specs.RunContents.{IsUnsided, MayBeSided};
+ghost use Rattle.migrate_mode.specs.RunContents.{IsUnsided, MayBeSided};
 ghost use Rattle.place_runs.specs.SidePlaces.{is_side_of_two, printed_sides, ring_text_of};
 ghost use Rattle.place_runs.specs.InsideSides.{AreSomeRingsOf, is_side_printed, is_some_feature};
 
 use crate::pieces::{no_spot, path_spot};
 use change_places::{PathSpot, RingSpot};
-use migrate::{CarriedLayers, list_sides};
+use migrate_mode::{CarriedLayers, list_sides};
 use plane_base::Pt;
 use ring_side::{SideChange, Spot};
 use runs::Refusal;

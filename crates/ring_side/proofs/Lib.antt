@@ -1,29 +1,6 @@
--- The files of lemmas of ring_side.
-mod Crossings
-mod SideParts
-mod Sweeps
-mod Nearness
-mod InBoxes
-mod RingParts
-mod RingNodes
-mod OnWay
-mod Spots
-mod Boxed
-mod GroupSpots
-mod Candidates
-mod RingFacts
-mod NoChanges
-mod RingPoints
-mod RingChanges
-mod Corners
-mod BoxSides
-mod ClearNodes
-mod ClusterLemmas
-mod OrderLemmas
-mod Sifted
-mod LooksNear
-mod LayerChanges
-mod OnSegments
-mod OwnPoints
-mod Differing
+-- The lemmas of ring_side, in folders by subject.
+mod PointSides
+mod RingBoxes
+mod PointGroups
+mod ChangeLists
 pub mod SideMembers

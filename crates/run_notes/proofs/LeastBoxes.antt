@@ -4,7 +4,7 @@ use Rattle.plane_base.specs.declared.shapes.Pt.{Pt}
 use Rattle.plane_base.specs.declared.shapes.Rect.{Rect}
 use Rattle.plane_base.specs.Boxes.{HasBox, HasPoint, box_with_point}
 use Rattle.plane_base.specs.Plane.{Point, whole}
-use Rattle.plane_base.proofs.BoxLemmas.{outer_has, widened_has, widened_least}
+use Rattle.plane_base.proofs.Bounds.BoxLemmas.{outer_has, widened_has, widened_least}
 use Rattle.std.proofs.lemmas.List.{map-append, take_more}
 use Rattle.tin_base.specs.declared.corners.Corner.{Corner}
 use Rattle.tin_base.specs.declared.frames.Frame.{Frame}

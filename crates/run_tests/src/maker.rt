@@ -2,7 +2,7 @@
 //! which are worked out by hand.
 
 use crate::memory_runs::{MemoryJob, other_job};
-use migrate::{make_layer, make_tin};
+use migrate_mode::{make_layer, make_tin};
 use runs::Status;
 use std::alloc::{AllocError, Global};
 use std::test::Fail;

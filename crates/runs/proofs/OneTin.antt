@@ -7,10 +7,10 @@ use Rattle.shelf_io.specs.Files.{Files, bytes_of}
 use Rattle.sheet_base.specs.declared.flags.How.{How}
 use Rattle.tin_base.specs.Triangulation.{Triangulation}
 use Rattle.tin_base.specs.Soundness.{IsSound}
-use Rattle.tin_base.proofs.Converse.{turned_sound}
+use Rattle.tin_base.proofs.FrameImages.Converse.{turned_sound}
 use Rattle.tin_check.specs.declared.faults.CheckFault.{CheckFault}
-use Rattle.tin_check.proofs.FirstFault.{unsound, one_first}
-use Rattle.tin_file.proofs.OneAnswer.{answer_is_one}
+use Rattle.tin_check.proofs.CallerLemmas.FirstFault.{unsound, one_first}
+use Rattle.tin_file.proofs.CallerLemmas.OneAnswer.{answer_is_one}
 use Rattle.tin_file.specs.declared.faults.TinFault.{TinFault}
 use Rattle.tin_file.specs.declared.faults.TinFault.TheVariants.{NoMemory as TinMemory}
 use Rattle.runs.specs.declared.loads.TheConstants.{MOST_BYTES}

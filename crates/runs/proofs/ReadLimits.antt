@@ -20,11 +20,11 @@ use Rattle.tin_file.specs.TinFiles.{made_of, within_spans, rows_of, reading}
 use Rattle.tin_file.specs.RowContents.{corners_in, IsBelow, IsFaceOf, AreFacesOf}
 use Rattle.tin_file.specs.declared.vertices.VertexRow.{VertexRow}
 use Rattle.tin_file.specs.declared.faults.TinFault.{TinFault}
-use Rattle.tin_file.proofs.CompleteRows.{face_there, narrow, near_all, row_within}
-use Rattle.tin_file.proofs.Fresh.{are_different, kept_few, kept_are}
-use Rattle.tin_file.proofs.NumberExtremes.{at_of}
-use Rattle.tin_file.proofs.RowsRead.{same_ok}
-use Rattle.tin_file.proofs.Whole.{split_then, AreVertices, vertices_are, AreTriangles, triangles_are}
+use Rattle.tin_file.proofs.CallerLemmas.CompleteRows.{face_there, narrow, near_all, row_within}
+use Rattle.tin_file.proofs.CallerLemmas.Fresh.{are_different, kept_few, kept_are}
+use Rattle.tin_file.proofs.CallerLemmas.NumberExtremes.{at_of}
+use Rattle.tin_file.proofs.CallerLemmas.RowsRead.{same_ok}
+use Rattle.tin_file.proofs.CallerLemmas.Whole.{split_then, AreVertices, vertices_are, AreTriangles, triangles_are}
 use Rattle.runs.specs.Laws.{ReadTinsAreWithinLimits}
 
 -- ---- the faces of rows

@@ -10,10 +10,10 @@ use Rattle.integer_ring.proofs.Claims.{solve}
 use Rattle.plain_laws.proofs.Weights.{weight_above}
 use Rattle.plane_base.specs.Plane.{Point, Same, whole}
 use Rattle.plane_base.specs.declared.shapes.Pt.{Pt}
-use Rattle.plane_base.proofs.Mixes.{mixed, between_weights, between-w, weights_between, mix_swapped}
+use Rattle.plane_base.proofs.MixLaws.Mixes.{mixed, between_weights, between-w, weights_between, mix_swapped}
 use Rattle.seg_gap.specs.Gaps.{IsOfSegment, square_between, AreCloser, HaveCloser}
 use Rattle.plane_base.specs.TwoWeights.{AreWeights}
-use Rattle.plane_base.proofs.TwoWeights.{weights_of}
+use Rattle.plane_base.proofs.MixLaws.TwoWeights.{weights_of}
 use Rattle.seg_gap.specs.InsideEnds.{square_to, HasMixBelow}
 use Rattle.seg_gap.proofs.Steps.{square_toE, IsFarAt}
 use Rattle.seg_gap.proofs.Sides.{IsFar, is_far}

@@ -7,7 +7,7 @@ use Rattle.integer_ring.proofs.Claims.{Claim, ◌≐◌, ◌≼◌, ◌≺◌, g
 use Rattle.integer_ring.proofs.Claims.{follows, solve}
 use Rattle.plane_base.specs.Plane.{whole, turn_of}
 use Rattle.plane_base.specs.declared.shapes.Pt.{Pt}
-use Rattle.plane_base.proofs.Sizes.{turn_whole}
+use Rattle.plane_base.proofs.Bounds.Sizes.{turn_whole}
 use Rattle.plane_base.specs.TwoWeights.{AreWeights}
 use Rattle.seg_gap.specs.InsideEnds.{AreOpposite, DoCross, way_to, IsLow}
 use Rattle.seg_gap.proofs.Steps.{way_from, way_fromE, way_toE, square_toE, whole_turn, whole_turnE, length_of, IsFarAt}

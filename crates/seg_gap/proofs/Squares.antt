@@ -7,8 +7,8 @@ use Rattle.integer_ring.proofs.Signs.{≤_of_mul, <_of_mul, mul-positive}
 use Rattle.integer_ring.proofs.Claims.{◌≐◌, ◌≼◌, ◌≺◌, gap, over, eqn, nat, square, ◌⊞◌, ◌⊠◌, ◌because◌, ◌⇒◌, follows}
 use Rattle.plane_base.specs.Plane.{Point, whole}
 use Rattle.plane_base.specs.declared.shapes.Pt.{Pt}
-use Rattle.plane_base.proofs.Mixes.{between_weights}
-use Rattle.plane_base.proofs.TwoWeights.{weights_of}
+use Rattle.plane_base.proofs.MixLaws.Mixes.{between_weights}
+use Rattle.plane_base.proofs.MixLaws.TwoWeights.{weights_of}
 use Rattle.seg_gap.specs.Gaps.{IsOfSegment, square_between}
 use Rattle.seg_gap.specs.Ends.{IsAsNearTo, IsNearerTo}
 use Rattle.seg_gap.specs.InsideEnds.{dot_of}

@@ -8,21 +8,21 @@ use Rattle.integer_ring.proofs.Claims.{◌≐◌, eqn, ◌⊞◌, ◌because◌,
 use Rattle.integer_ring.proofs.Signs.{≡_of_mul}
 use Rattle.plane_base.specs.Plane.{Point, Same, turn_of, whole}
 use Rattle.plane_base.specs.declared.shapes.Pt.{Pt}
-use Rattle.plane_base.proofs.Turns.{turn_cycle, turn_twice, turn_same}
-use Rattle.plane_base.proofs.Mixes.{same_refl, mixed, between_weights, weights_between, turn_on_side}
+use Rattle.plane_base.proofs.MixLaws.Turns.{turn_cycle, turn_twice, turn_same}
+use Rattle.plane_base.proofs.MixLaws.Mixes.{same_refl, mixed, between_weights, weights_between, turn_on_side}
 use Rattle.tin_base.specs.declared.frames.Frame.TheVariants.{Source}
 use Rattle.tin_base.specs.Triangulation.{Triangulation, numbers_of, IsInTriangle}
 use Rattle.tin_base.specs.Soundness.{has, common_of, IsSound}
 use Rattle.tin_base.specs.Limits.{IsWithinLimits}
 use Rattle.tin_base.specs.Segments.{Spot, spot_at, IsShared}
-use Rattle.tin_base.proofs.Spots.{one, spot-w}
-use Rattle.tin_base.proofs.WaySteps.{turn_mixed}
-use Rattle.tin_base.proofs.Weights.{HasAll, common_in_first, common_in_second}
+use Rattle.tin_base.proofs.SegmentSpots.Spots.{one, spot-w}
+use Rattle.tin_base.proofs.PieceChains.WaySteps.{turn_mixed}
+use Rattle.tin_base.proofs.FrameImages.Weights.{HasAll, common_in_first, common_in_second}
 use Rattle.tin_index.specs.Sides.{HasCorner, corner_of, next_of, IsAcross}
 use Rattle.tin_index.proofs.Corners.{Numbered, numbered}
 use Rattle.seg_walk.specs.InsideExits.{place_at, IsOnLine, IsLeftAt}
-use Rattle.tin_base.proofs.Members.{has_first_of_two, has_second_of_two, one_of_three}
-use Rattle.tin_base.proofs.Overlap.{in_more}
+use Rattle.tin_base.proofs.TriangleLemmas.Members.{has_first_of_two, has_second_of_two, one_of_three}
+use Rattle.tin_base.proofs.PieceChains.Overlap.{in_more}
 
 -- ---- weights on a line
 moved : (v w t s z : ℤ) → v *ℤ t ≡ w *ℤ s → t ≡ pos 0 → z ≡ s → z *ℤ w ≡ pos 0 *ℤ w

@@ -7,8 +7,8 @@ use Rattle.tin_base.specs.declared.frames.Frame.TheVariants.{Source}
 use Rattle.tin_base.specs.Triangulation.{Triangulation, numbers_of, places}
 use Rattle.tin_base.specs.Limits.{IsWithinLimits}
 use Rattle.tin_base.specs.Segments.{Spot, spot_at, IsShared}
-use Rattle.tin_base.proofs.SegmentSlices.{in_spot}
-use Rattle.tin_base.proofs.TrianglePlaces.{stands}
+use Rattle.tin_base.proofs.SegmentSpots.SegmentSlices.{in_spot}
+use Rattle.tin_base.proofs.TriangleLemmas.TrianglePlaces.{stands}
 use Rattle.seg_walk.specs.InsideStarts.{MissesTriangle}
 
 pub not_missed : (tin : Triangulation) (a b : Pt) (t : ℕ) (s : Spot) → IsWithinLimits tin → t < length tin.triangles

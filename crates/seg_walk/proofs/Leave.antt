@@ -11,18 +11,18 @@ use Rattle.plane_base.specs.declared.shapes.Tri.{Tri}
 use Rattle.plane_base.specs.declared.stretches.End.{End}
 use Rattle.plane_base.specs.declared.stretches.End.TheVariants.{Vertex, Side}
 use Rattle.plane_base.specs.declared.stretches.Stretch.{Stretch}
-use Rattle.plane_base.proofs.Along.{along-w}
+use Rattle.plane_base.proofs.MixLaws.Along.{along-w}
 use Rattle.tin_base.specs.declared.frames.Frame.TheVariants.{Source}
 use Rattle.tin_base.specs.Triangulation.{Triangulation, numbers_of, places}
 use Rattle.tin_base.specs.Limits.{IsWithinLimits}
 use Rattle.tin_base.specs.Segments.{Spot, spot_at}
-use Rattle.tin_base.proofs.SegmentSlices.{mix_by, one_axis}
+use Rattle.tin_base.proofs.SegmentSpots.SegmentSlices.{mix_by, one_axis}
 use Rattle.tin_index.specs.Sides.{next_of}
 use Rattle.tin_base.specs.Slices.{spot_of, IsSliceIn}
 use Rattle.seg_walk.specs.InsideExits.{place_at, IsOnLine, IsLeftAt}
-use Rattle.tin_base.proofs.TrianglePlaces.{stands}
-use Rattle.tin_base.proofs.Params.{at_spot, spot_some}
-use Rattle.tin_base.proofs.SlicedParts.{within}
+use Rattle.tin_base.proofs.TriangleLemmas.TrianglePlaces.{stands}
+use Rattle.tin_base.proofs.SegmentSpots.Params.{at_spot, spot_some}
+use Rattle.tin_base.proofs.SegmentSpots.SlicedParts.{within}
 
 -- ---- the point at a parameter is that of its spot
 mix_at : (a b : Pt) (f : Frac) (ps : List Point) → IsParam f.num f.den

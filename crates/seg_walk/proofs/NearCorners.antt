@@ -12,7 +12,7 @@ use Rattle.tin_base.specs.declared.frames.Frame.TheVariants.{Source}
 use Rattle.tin_base.specs.Triangulation.{Triangulation, place, corner_at, numbers_of, places, IsInTriangle}
 use Rattle.tin_base.specs.Images.{IsInSome}
 use Rattle.tin_base.specs.Limits.{IsWithinLimits}
-use Rattle.tin_base.proofs.TrianglePlaces.{source_at}
+use Rattle.tin_base.proofs.TriangleLemmas.TrianglePlaces.{source_at}
 use Rattle.tin_index.specs.Boxes.{IsNearCorners}
 use Rattle.plain_laws.proofs.Weights.{three_positive}
 

@@ -8,7 +8,7 @@ use Rattle.std.specs.List.Sorted.{IsStrictlyIncreasing}
 use Rattle.plane_base.specs.declared.shapes.Pt.{Pt}
 use Rattle.tin_base.specs.Triangulation.{Triangulation}
 use Rattle.tin_base.specs.Segments.{Spot, IsSameSpot, IsPart}
-use Rattle.tin_base.proofs.Ends.{not_both, before_trans_left, from_same}
+use Rattle.tin_base.proofs.SegmentSpots.Ends.{not_both, before_trans_left, from_same}
 use Rattle.tin_index.specs.Sides.{HasCorner, IsAcross, IsStar}
 use Rattle.seg_walk.specs.declared.steps.Step.{Step}
 use Rattle.seg_walk.specs.InsideStarts.{HasNoPartFrom, HasNoneFrom, IsPartFrom, IsLeastAmong, GoesOn}

@@ -7,7 +7,7 @@ use Rattle.plane_base.specs.Plane.{Point, whole, along, IsMix}
 use Rattle.plane_base.specs.Slices.{IsParam, IsBetween}
 use Rattle.plane_base.specs.declared.shapes.Pt.{Pt}
 use Rattle.plane_base.specs.declared.stretches.Stretch.{Stretch}
-use Rattle.plane_base.proofs.Mixes.{mix_moved}
+use Rattle.plane_base.proofs.MixLaws.Mixes.{mix_moved}
 use Rattle.tin_base.specs.declared.frames.Frame.TheVariants.{Source}
 use Rattle.tin_base.specs.Triangulation.{Triangulation, IsInTriangle}
 use Rattle.tin_base.specs.Slices.{IsSliceIn}

@@ -11,7 +11,7 @@ use Rattle.seg_walk.specs.declared.steps.Step.{Step}
 use Rattle.seg_walk.specs.InsideStarts.{HasNoPartFrom, HasNoneFrom, IsPartFrom, IsLeastAmong, GoesOn}
 use Rattle.seg_walk.specs.InsideExits.{IsOnLine, IsLeftAt}
 use Rattle.seg_walk.proofs.CommonCorners.{shares_first, shares_second, shares_side}
-use Rattle.tin_base.proofs.Apart.{begun}
+use Rattle.tin_base.proofs.PieceChains.Apart.{begun}
 use Rattle.seg_walk.proofs.NextTriangles.{another, goes_around, goes_nowhere, goes_across}
 
 pub around_first : (tin : Triangulation) (a b : Pt) (t k c : ℕ) (x : Spot) (star : List ℕ) (next : Option Step)

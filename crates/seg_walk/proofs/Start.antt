@@ -7,22 +7,22 @@ use Rattle.plane_base.specs.Plane.{whole}
 use Rattle.plane_base.specs.Slices.{IsParam}
 use Rattle.plane_base.specs.declared.shapes.Pt.{Pt}
 use Rattle.plane_base.specs.declared.stretches.Stretch.{Stretch}
-use Rattle.plane_base.proofs.Mixes.{mix_moved, same_sym}
+use Rattle.plane_base.proofs.MixLaws.Mixes.{mix_moved, same_sym}
 use Rattle.tin_base.specs.declared.frames.Frame.TheVariants.{Source}
 use Rattle.tin_base.specs.Triangulation.{Triangulation, numbers_of, places, IsInTriangle}
 use Rattle.tin_base.specs.Soundness.{IsSound}
 use Rattle.tin_base.specs.Limits.{IsWithinLimits}
 use Rattle.tin_base.specs.Segments.{Spot, spot_at, at_a, IsBefore, IsNotAfter, IsSameSpot, IsShared}
-use Rattle.tin_base.proofs.Ends.{IsSpot, before_or, no_later_trans, up_to_same}
-use Rattle.tin_base.proofs.Further.{start_is}
-use Rattle.tin_base.proofs.Spots.{one, spot-w}
+use Rattle.tin_base.proofs.SegmentSpots.Ends.{IsSpot, before_or, no_later_trans, up_to_same}
+use Rattle.tin_base.proofs.PieceChains.Further.{start_is}
+use Rattle.tin_base.proofs.SegmentSpots.Spots.{one, spot-w}
 use Rattle.seg_walk.specs.declared.steps.Step.{Step}
 use Rattle.tin_base.specs.Slices.{spot_of, IsSliceIn}
 use Rattle.seg_walk.specs.InsideStarts.{MissesTriangle, IsStepFrom}
-use Rattle.tin_base.proofs.SlicedParts.{params, part_told, within}
+use Rattle.tin_base.proofs.SegmentSpots.SlicedParts.{params, part_told, within}
 use Rattle.seg_walk.proofs.FirstTriangles.{not_missed}
-use Rattle.tin_base.proofs.Params.{spot_some, below}
-use Rattle.tin_base.proofs.Apart.{begun}
+use Rattle.tin_base.proofs.SegmentSpots.Params.{spot_some, below}
+use Rattle.tin_base.proofs.PieceChains.Apart.{begun}
 
 -- ---- the first point as a spot
 shared_a : (tin : Triangulation) (a b : Pt) (t : ℕ) → IsInTriangle tin Source t (whole a) → IsShared tin a b t at_a

@@ -17,9 +17,9 @@ use Rattle.seg_walk.specs.declared.steps.Step.{Step}
 use Rattle.tin_base.specs.Slices.{spot_of, spot_by, IsSliceIn}
 use Rattle.seg_walk.specs.Steps.{part_of, point_of, HaveSlices, AreSteps}
 use Rattle.seg_walk.specs.InsideStarts.{IsPartFrom, IsStepFrom, GoesOn}
-use Rattle.tin_base.proofs.SlicedParts.{HasParams, params}
-use Rattle.tin_base.proofs.UnusedTriangles.{unused, less_left}
-use Rattle.tin_base.proofs.Walk.{IsWalked, Follows, start, more, not_again, all_walked, all_inside, stuck}
+use Rattle.tin_base.proofs.SegmentSpots.SlicedParts.{HasParams, params}
+use Rattle.tin_base.proofs.PieceChains.UnusedTriangles.{unused, less_left}
+use Rattle.tin_base.proofs.PieceChains.Walk.{IsWalked, Follows, start, more, not_again, all_walked, all_inside, stuck}
 
 have_more : (tin : Triangulation) (a b : Pt) (steps : List Step) (step : Step) → HaveSlices tin a b steps
     → IsSliceIn tin a b step.tri step.slice → HaveSlices tin a b (steps ++ step ∷ [])

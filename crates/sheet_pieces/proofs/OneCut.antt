@@ -3,21 +3,21 @@
 use Rattle.std.proofs.Common.{◌≡◌, ◌≢◌, ◌⊎◌, inl, inr, ℕ, zero, suc, ◌*◌, ◌<◌, ◌≤◌, List, [], ◌∷◌, length, refl, sym}
 use Rattle.std.proofs.Common.{◌∙◌, ap, ap₂, subst, arith}
 use Rattle.plane_base.specs.declared.shapes.Pt.{Pt}
-use Rattle.plane_base.proofs.Mixes.{mix_moved}
+use Rattle.plane_base.proofs.MixLaws.Mixes.{mix_moved}
 use Rattle.tin_base.specs.declared.frames.Frame.TheVariants.{Source}
 use Rattle.tin_base.specs.Triangulation.{Triangulation, places, numbers_of}
 use Rattle.tin_base.specs.Soundness.{IsSound}
 use Rattle.tin_base.specs.Segments.{Spot, spot_at, at_a, IsNotAfter, IsSameSpot, IsShared, IsPart, Part, part_at}
 use Rattle.tin_base.specs.Segments.{ArePieces, ArePiecesAt, ArePiecesOf}
-use Rattle.tin_base.proofs.Ends.{IsSpot, no_later_trans, not_both, no_later, before_trans_left, before_trans_right}
+use Rattle.tin_base.proofs.SegmentSpots.Ends.{IsSpot, no_later_trans, not_both, no_later, before_trans_left, before_trans_right}
 use Rattle.affine_image.specs.RoundedImages.{IsRoundedImageAt}
 use Rattle.sheet_pieces.specs.SheetImages.{AreEndsOfAllButLast}
-use Rattle.tin_base.proofs.Spots.{spot-w, same_of_spots}
+use Rattle.tin_base.proofs.SegmentSpots.Spots.{spot-w, same_of_spots}
 use Rattle.affine_image.proofs.PlaceImages.{rounded_moved}
 use Rattle.affine_image.proofs.RoundedImages.{rounded_images_agree}
 use Rattle.sheet_pieces.proofs.PartSequences.{same_or}
 use Rattle.plain_laws.proofs.Order.{trichotomy, equal_of_neither}
-use Rattle.tin_base.proofs.Ends.{up_to_same}
+use Rattle.tin_base.proofs.SegmentSpots.Ends.{up_to_same}
 
 -- ---- the order of spots
 same_up : (m n : ℕ) → m ≡ n → m ≤ n

@@ -8,7 +8,7 @@ use Rattle.plane_base.specs.declared.shapes.Pt.{Pt}
 use Rattle.sheet_base.specs.PointHeights.{Height, IsHeightWithinReach}
 use Rattle.sheet_base.specs.ReadBack.{Ends}
 use Rattle.tin_base.specs.Segments.{Spot, Part}
-use Rattle.plane_base.proofs.TwoWeights.{weights_of}
+use Rattle.plane_base.proofs.MixLaws.TwoWeights.{weights_of}
 use Rattle.affine_image.proofs.HeightLemmas.{heights_are_between, heights_agree}
 use Rattle.sheet_pieces.specs.SpotHeights.{mixed_height, weighed_height, spot_height, crossing_heights}
 use Rattle.sheet_pieces.proofs.OneCut.{AreOne, AreAlike}

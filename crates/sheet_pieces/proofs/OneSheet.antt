@@ -7,7 +7,7 @@ use Rattle.sheet_base.specs.ImageFits.{Runs}
 use Rattle.sheet_base.specs.Sheets.{Contents}
 use Rattle.tin_base.specs.Triangulation.{Triangulation}
 use Rattle.tin_base.specs.Soundness.{IsSound}
-use Rattle.tin_base.proofs.Spots.{one}
+use Rattle.tin_base.proofs.SegmentSpots.Spots.{one}
 use Rattle.sheet_pieces.specs.SheetSegments.{SheetSegment, PathVertex}
 use Rattle.sheet_pieces.specs.SheetImages.{AreCrossings, IsRun, AreRuns, joined_runs, begins_from, AreImagesOf}
 use Rattle.affine_image.proofs.RoundedImages.{rounded_images_agree}

@@ -5,14 +5,14 @@ use Rattle.std.proofs.Common.{length, sym, subst, arith}
 use Rattle.std.proofs.lemmas.Int.{ints}
 use Rattle.plane_base.specs.Plane.{Same, whole}
 use Rattle.plane_base.specs.declared.shapes.Pt.{Pt}
-use Rattle.plane_base.proofs.Mixes.{same_trans, weights_between}
+use Rattle.plane_base.proofs.MixLaws.Mixes.{same_trans, weights_between}
 use Rattle.tin_base.specs.Triangulation.{Triangulation}
 use Rattle.tin_base.specs.Soundness.{IsSound}
 use Rattle.tin_base.specs.Segments.{spot_at, at_a, at_b, IsInside, Part, part_at, ArePieces}
 use Rattle.tin_base.specs.Segments.{ArePiecesAt, ArePiecesOf, AreChain}
-use Rattle.tin_base.proofs.Spots.{one, spot-w, spot_first, spot_last, first_axis, spot_of_point}
-pub use Rattle.tin_base.proofs.Spots.{same_of_spots}
-use Rattle.tin_base.proofs.Chain.{chain}
+use Rattle.tin_base.proofs.SegmentSpots.Spots.{one, spot-w, spot_first, spot_last, first_axis, spot_of_point}
+pub use Rattle.tin_base.proofs.SegmentSpots.Spots.{same_of_spots}
+use Rattle.tin_base.proofs.PieceChains.Chain.{chain}
 
 -- ---- two points are the same, or not
 int_same_or : (x y : ℤ) → (x ≡ y) ⊎ (x ≢ y)

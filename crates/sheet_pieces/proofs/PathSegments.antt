@@ -28,7 +28,7 @@ use Rattle.sheet_pieces.specs.SheetSegments.{segments_begun, sheet_vertices}
 use Rattle.sheet_pieces.specs.SheetPieces.{first_place, ArePiecesOfSegment, ArePiecesOfAll, AreInside}
 use Rattle.sheet_pieces.specs.SheetImages.{joined_runs}
 use Rattle.sheet_pieces.specs.SheetLaws.{AreImagesJoined, image_ends, ImageSegmentsArePieces}
-use Rattle.tin_base.proofs.Spots.{one}
+use Rattle.tin_base.proofs.SegmentSpots.Spots.{one}
 use Rattle.affine_image.proofs.RoundedImages.{rounded_images_agree}
 use Rattle.sheet_pieces.proofs.PlaneRuns.{ArePlaneCrossings, IsPlaneRun, ArePlaneRuns, plane, plane_runs}
 use Rattle.sheet_pieces.proofs.SheetImages.{plane_joint}

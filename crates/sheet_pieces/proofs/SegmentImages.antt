@@ -9,8 +9,8 @@ use Rattle.integer_ring.proofs.Claims.{solve}
 use Rattle.plain_laws.proofs.Weights.{two_positive, weight_above}
 use Rattle.plane_base.specs.Plane.{Point, Same, IsMix, whole}
 use Rattle.plane_base.specs.declared.shapes.Pt.{Pt}
-use Rattle.plane_base.proofs.Mixes.{same_refl, same_sym, same_trans, Between, between_weights, weights_between}
-use Rattle.plane_base.proofs.Mixes.{mixes_mix, mix_moved}
+use Rattle.plane_base.proofs.MixLaws.Mixes.{same_refl, same_sym, same_trans, Between, between_weights, weights_between}
+use Rattle.plane_base.proofs.MixLaws.Mixes.{mixes_mix, mix_moved}
 use Rattle.tin_base.specs.declared.frames.Frame.TheVariants.{Source}
 use Rattle.tin_base.specs.Triangulation.{Triangulation, IsInTriangle}
 use Rattle.tin_base.specs.Soundness.{IsSound}
@@ -19,10 +19,10 @@ use Rattle.tin_base.specs.Relations.{IsBetween}
 use Rattle.tin_base.specs.CarriedSegments.{IsCarried}
 use Rattle.tin_base.specs.Segments.{Spot, spot_at, at_a, IsBefore, IsNotAfter, IsInside, IsPart, Part, part_at}
 use Rattle.tin_base.specs.Segments.{ArePieces, ArePiecesAt}
-use Rattle.tin_base.proofs.Agreement.{each_has_image}
-use Rattle.tin_base.proofs.SegmentImages.{images_between, each_between}
-use Rattle.tin_base.proofs.Chain.{covered}
-use Rattle.tin_base.proofs.Spots.{one, spot-w, spot_of_point}
+use Rattle.tin_base.proofs.FrameImages.Agreement.{each_has_image}
+use Rattle.tin_base.proofs.FrameImages.SegmentImages.{images_between, each_between}
+use Rattle.tin_base.proofs.PieceChains.Chain.{covered}
+use Rattle.tin_base.proofs.SegmentSpots.Spots.{one, spot-w, spot_of_point}
 use Rattle.affine_image.proofs.PlaceImages.{image_moved}
 use Rattle.sheet_pieces.specs.SegmentImages.{IsImageOfSome, IsOnImageOf, PieceImagesAreTheImage}
 use Rattle.sheet_pieces.proofs.PartSequences.{same_or}

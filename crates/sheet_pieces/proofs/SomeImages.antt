@@ -7,7 +7,7 @@ use Rattle.std.proofs.lemmas.Bool.{ltb-false}
 use Rattle.std.proofs.lemmas.Int.{ints}
 use Rattle.plane_base.specs.Plane.{whole, IsMix}
 use Rattle.plane_base.specs.declared.shapes.Pt.{Pt}
-use Rattle.plane_base.proofs.Mixes.{same_refl}
+use Rattle.plane_base.proofs.MixLaws.Mixes.{same_refl}
 use Rattle.sheet_base.specs.declared.paths.PathRow.{PathRow}
 use Rattle.sheet_base.specs.PointHeights.{Height, Position, points_with_heights, points_of, heights_of}
 use Rattle.sheet_base.specs.Segments.{points_in, segments_in, begin_of}
@@ -19,9 +19,9 @@ use Rattle.tin_base.specs.Triangulation.{Triangulation}
 use Rattle.tin_base.specs.Images.{IsInSome}
 use Rattle.tin_base.specs.Soundness.{IsSound}
 use Rattle.tin_base.specs.Segments.{Spot, Part, part_at, spot_at, IsInside, ArePiecesOf}
-use Rattle.tin_base.proofs.Agreement.{each_has_image}
-use Rattle.tin_base.proofs.Spots.{spot-w, first_inside, last_inside}
-use Rattle.tin_base.proofs.Outcomes as walks
+use Rattle.tin_base.proofs.FrameImages.Agreement.{each_has_image}
+use Rattle.tin_base.proofs.SegmentSpots.Spots.{spot-w, first_inside, last_inside}
+use Rattle.tin_base.proofs.PieceChains.Outcomes as walks
 use Rattle.affine_image.specs.RoundedImages.{rounded_point, IsRoundedImage, IsRoundedImageAt}
 use Rattle.sheet_pieces.specs.SheetSegments.{SheetSegment, PathVertex, vertex_at, path_vertices}
 use Rattle.sheet_pieces.specs.SheetSegments.{vertices_from}

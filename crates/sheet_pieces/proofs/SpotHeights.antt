@@ -15,7 +15,7 @@ use Rattle.tin_base.specs.Triangulation.{Triangulation}
 use Rattle.tin_base.specs.Soundness.{IsSound}
 use Rattle.tin_base.specs.Segments.{Spot, Part, part_at, IsInside, ArePieces}
 use Rattle.tin_base.specs.Segments.{ArePiecesOf}
-use Rattle.tin_base.proofs.Chain.{chain}
+use Rattle.tin_base.proofs.PieceChains.Chain.{chain}
 use Rattle.sheet_pieces.specs.SpotHeights.{mixed_height, spot_height, crossing_heights}
 use Rattle.sheet_pieces.proofs.PartSequences.{same_or}
 

@@ -1,26 +1,6 @@
--- The files of lemmas of tin_check.
-mod Places
-mod Sides
-mod AtCorner
-mod AtSide
-mod BySlice
-mod Tests
-mod CornerShifts
-pub mod CornerMarks
-pub mod FirstFault
-pub mod Progress
-mod AroundCorner
-mod Beyond
-mod TurnTests
-mod InBoxes
-mod Apart
-mod BySides
-mod ByCorner
-mod ByNumbers
-mod Partners
-mod FitOrNot
+-- The lemmas of tin_check, in folders by subject.
+mod TriangleTests
+mod PairFits
+mod BorderLemmas
+pub mod CallerLemmas
 mod Outcomes
-mod BorderSides
-mod SideMeetings
-mod SideTrees
-mod SideOrders

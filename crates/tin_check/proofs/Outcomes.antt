@@ -11,10 +11,10 @@ use Rattle.tin_check.specs.declared.faults.CheckFault.{CheckFault}
 use Rattle.tin_check.specs.declared.faults.CheckFault.TheVariants.{Flat, TurnsOver, Meets}
 use Rattle.tin_check.specs.Faults.{IsFirstFault, OutcomeExists}
 use Rattle.tin_check.specs.InsideProgress.{ArePositive, IsBeforePair, DoFitBefore, DoAllFit, IsFirstPair}
-use Rattle.tin_check.proofs.FirstFault.{flat_source, flat_target, turned_over, one_more_positive, source_alone}
-use Rattle.tin_check.proofs.FirstFault.{target_alone, source_first, target_first}
-use Rattle.tin_check.proofs.Progress.{all_fit, checked}
-use Rattle.tin_check.proofs.FitOrNot.{fit_or}
+use Rattle.tin_check.proofs.CallerLemmas.FirstFault.{flat_source, flat_target, turned_over, one_more_positive, source_alone}
+use Rattle.tin_check.proofs.CallerLemmas.FirstFault.{target_alone, source_first, target_first}
+use Rattle.tin_check.proofs.CallerLemmas.Progress.{all_fit, checked}
+use Rattle.tin_check.proofs.PairFits.FitOrNot.{fit_or}
 
 abbrev HasFirstFault : Triangulation → Type 0
 HasFirstFault tin = (fault : CheckFault) × IsFirstFault tin fault

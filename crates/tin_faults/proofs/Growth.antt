@@ -19,7 +19,7 @@ use Rattle.tin_faults.specs.InsideProgress.{HasFaultsBefore, IsPassed, IsTurnFau
 use Rattle.tin_faults.proofs.Ranks.{lower_trans, none_first, all_last, IsOfTriangle, triangle_split, triangle_on, triangles_end}
 use Rattle.tin_faults.proofs.Ranks.{triangles_over, pairs_begin, pair_split, pair_on, IsFrom, seconds_split, first_split, first_on}
 use Rattle.tin_faults.proofs.Ranks.{pairs_end, pairs_over, triangle_first}
-use Rattle.tin_check.proofs.Progress.{rises_on}
+use Rattle.tin_check.proofs.CallerLemmas.Progress.{rises_on}
 
 -- ---- lists
 pub contains_later : {X : Type 0} → (x y : X) (xs : List X) → Contains xs y → Contains (x ∷ xs) y

@@ -7,7 +7,7 @@ use Rattle.plane_base.specs.Plane.{Point, IsMix}
 use Rattle.tin_base.specs.declared.frames.Frame.{Frame}
 use Rattle.tin_base.specs.Triangulation.{Triangulation, numbers_of, places}
 use Rattle.tin_base.specs.Soundness.{has, common, DoFit}
-use Rattle.tin_base.proofs.InOrder.{has_all, mix_more}
+use Rattle.tin_base.proofs.TriangleLemmas.InOrder.{has_all, mix_more}
 use Rattle.tin_faults.specs.InsidePairs.{IsCountedEither}
 
 -- ---- two lists with the same numbers

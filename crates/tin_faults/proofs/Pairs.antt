@@ -8,18 +8,18 @@ use Rattle.std.proofs.lemmas.List.{length-map}
 use Rattle.plane_base.specs.Plane.{Point, IsMix, whole, turn_of, corners_of}
 use Rattle.plane_base.specs.declared.shapes.Pt.{Pt}
 use Rattle.plane_base.specs.declared.shapes.Tri.{Tri}
-use Rattle.plane_base.proofs.Turns.{turn_cycle, turn_swap}
+use Rattle.plane_base.proofs.MixLaws.Turns.{turn_cycle, turn_swap}
 use Rattle.tin_base.specs.declared.frames.Frame.{Frame}
 use Rattle.tin_base.specs.Triangulation.{Triangulation, place, corner_at, numbers_of, places}
 use Rattle.tin_base.specs.Soundness.{has, common, DoFit}
 use Rattle.tin_base.specs.Limits.{IsWithinLimits}
-use Rattle.tin_base.proofs.Members.{has_head}
-use Rattle.tin_base.proofs.TriangleCorners.{near_points}
+use Rattle.tin_base.proofs.TriangleLemmas.Members.{has_head}
+use Rattle.tin_base.proofs.TriangleLemmas.TriangleCorners.{near_points}
 use Rattle.tin_check.specs.CommonPoints.{MeetOnlyIn}
 use Rattle.tin_check.specs.Marks.{points_of, marked_of, IsAmong, HaveSamePoints, AreNearTris}
 use Rattle.tin_faults.specs.InsidePairs.{IsCountedEither, IsLeftTurned}
 use Rattle.tin_faults.proofs.Numbers.{HaveSameNumbers, same_back, has_common, DoFitBy, fit_same, fit_to, fit_from}
-use Rattle.tin_check.proofs.CornerMarks.{marked-places}
+use Rattle.tin_check.proofs.CallerLemmas.CornerMarks.{marked-places}
 
 -- ---- points at the places of corners of a list
 -- the point is at the place of a corner of the list

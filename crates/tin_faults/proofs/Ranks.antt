@@ -7,7 +7,7 @@ use Rattle.tin_faults.specs.declared.faults.Fault.{Fault}
 use Rattle.tin_faults.specs.declared.faults.Fault.TheVariants.{Flat, TurnsOver, Overlap}
 use Rattle.tin_faults.specs.Faults.{IsFaultOf}
 use Rattle.tin_faults.specs.InsideProgress.{triangle_key, pair_key, IsPassed}
-use Rattle.tin_check.proofs.FirstFault.{same_frame}
+use Rattle.tin_check.proofs.CallerLemmas.FirstFault.{same_frame}
 
 pub lower_trans : (ks ms ns : List ℕ) → IsLowerRank ks ms → IsLowerRank ms ns → IsLowerRank ks ns
 lower_trans (k ∷ ks) (m ∷ ms) [] h i = absurd i

@@ -11,13 +11,13 @@ use Rattle.plane_base.specs.declared.shapes.Tri.{Tri}
 use Rattle.plane_base.specs.declared.shapes.Rect.{Rect}
 use Rattle.plane_base.specs.Plane.{Point, IsMix}
 use Rattle.plane_base.specs.Boxes.{IsIn, IsOrdered, AreApart, ShareAPoint, ShareAPointOrAreApart, box_of_triangle}
-use Rattle.plane_base.proofs.BoxLemmas.{none_in_both, inside_in, triangle_ordered, apart_or_not, least_is_one, greatest_is_one}
+use Rattle.plane_base.proofs.Bounds.BoxLemmas.{none_in_both, inside_in, triangle_ordered, apart_or_not, least_is_one, greatest_is_one}
 use Rattle.cell_grid.specs.Boxes.{AreOrdered, IsWithinSpan, AreWithinSpan, AreBoxesAt, box_at, no_box}
 use Rattle.tin_base.specs.declared.frames.Frame.{Frame}
 use Rattle.tin_base.specs.Triangulation.{Triangulation, place, corner_at, numbers_of, places}
 use Rattle.tin_base.specs.Soundness.{has, common_of, DoFit}
 use Rattle.tin_base.specs.Limits.{IsWithinLimits}
-use Rattle.tin_base.proofs.Members.{has_head}
+use Rattle.tin_base.proofs.TriangleLemmas.Members.{has_head}
 use Rattle.tin_check.specs.Marks.{AreNearTris}
 use Rattle.tin_faults.specs.InsideBoxes.{IsTriangleBox, AreTriangleBoxes}
 use Rattle.tin_faults.specs.InsideProgress.{DoListOverlaps}

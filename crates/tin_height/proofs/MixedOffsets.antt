@@ -12,12 +12,12 @@ use Rattle.mm_decimal.specs.declared.limits.TheConstants.{LIMIT}
 use Rattle.plane_base.specs.Plane.{Point, Same, turn_of, weighted_sum, whole, corners_of, holds_of}
 use Rattle.plane_base.specs.declared.shapes.Pt.{Pt}
 use Rattle.plane_base.specs.declared.shapes.Tri.{Tri}
-use Rattle.plane_base.proofs.Turns.{turn_split}
-use Rattle.plane_base.proofs.InTriangle.{turns_of_mix}
-use Rattle.plane_base.proofs.Proportions.{weights_are_turns}
+use Rattle.plane_base.proofs.MixLaws.Turns.{turn_split}
+use Rattle.plane_base.proofs.TriangleLaws.InTriangle.{turns_of_mix}
+use Rattle.plane_base.proofs.MixLaws.Proportions.{weights_are_turns}
 use Rattle.tin_base.specs.declared.frames.Frame.TheVariants.{Source}
 use Rattle.tin_base.specs.Triangulation.{Triangulation, place, corner_at, places, numbers_of, IsInTriangle}
-use Rattle.tin_base.proofs.Weights.{total-ones}
+use Rattle.tin_base.proofs.FrameImages.Weights.{total-ones}
 use Rattle.frac128.proofs.Nearest.{within}
 use Rattle.tin_base.specs.Limits.{IsWithinLimits}
 use Rattle.affine_image.proofs.HalfUp.{rounded_not_below, rounded_not_above}

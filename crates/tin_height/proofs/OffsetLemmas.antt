@@ -12,8 +12,8 @@ use Rattle.tin_base.specs.declared.frames.Frame.TheVariants.{Source, Target}
 use Rattle.tin_base.specs.Triangulation.{Triangulation, triangulation, no_corner, corner_at, numbers_of, place, places, IsInTriangle}
 use Rattle.tin_base.specs.Soundness.{IsSound, common_of, turn_of_three}
 use Rattle.tin_base.specs.Images.{AreLikeMixes}
-use Rattle.tin_base.proofs.Weights.{common_in_first, common_in_second, total-ones, weighed-w}
-use Rattle.tin_base.proofs.Alike.{alike_more, alike_in, alike_of, alike_once, same_trans}
+use Rattle.tin_base.proofs.FrameImages.Weights.{common_in_first, common_in_second, total-ones, weighed-w}
+use Rattle.tin_base.proofs.FrameImages.Alike.{alike_more, alike_in, alike_of, alike_once, same_trans}
 use Rattle.tin_height.specs.Offsets.{weighed_offset, IsOffset, OffsetExists, OffsetIsOne}
 
 -- the corners with their offsets in the place of a target

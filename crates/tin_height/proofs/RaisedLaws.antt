@@ -12,11 +12,11 @@ use Rattle.tin_base.specs.Triangulation.{Triangulation}
 use Rattle.tin_base.specs.Images.{IsInSome}
 use Rattle.tin_base.specs.Soundness.{IsSound}
 use Rattle.tin_base.specs.Segments.{Part, IsInside, ArePiecesOf}
-use Rattle.tin_base.proofs.Outcomes as walks
-use Rattle.tin_base.proofs.Spots.{first_inside, point_inside}
+use Rattle.tin_base.proofs.PieceChains.Outcomes as walks
+use Rattle.tin_base.proofs.SegmentSpots.Spots.{first_inside, point_inside}
 use Rattle.affine_image.specs.Laws.{RoundedImagesAgree}
 use Rattle.affine_image.specs.RoundedImages.{rounded_point}
-use Rattle.tin_base.proofs.Agreement.{each_has_image}
+use Rattle.tin_base.proofs.FrameImages.Agreement.{each_has_image}
 use Rattle.affine_image.proofs.HalfUp.{same_rounded}
 use Rattle.tin_height.specs.Offsets.{IsRoundedOffset}
 use Rattle.tin_height.specs.Raises.{IsRaised, AreRaised, IsFirstOutside, RaisedAreOne, RaisedExist, IsRaisedOrOutside}

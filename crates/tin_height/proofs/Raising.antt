@@ -6,7 +6,7 @@ use Rattle.plane_base.specs.Plane.{whole}
 use Rattle.tin_base.specs.declared.frames.Frame.TheVariants.{Source}
 use Rattle.tin_base.specs.Triangulation.{Triangulation, numbers_of}
 use Rattle.tin_base.specs.Images.{IsInSome}
-use Rattle.tin_base.proofs.Alike.{alike_in}
+use Rattle.tin_base.proofs.FrameImages.Alike.{alike_in}
 use Rattle.tin_height.specs.Raises.{IsRaised, AreRaised, IsFirstOutside}
 use Rattle.tin_height.specs.declared.points.PointRow.{PointRow}
 use Rattle.tin_height.specs.declared.raises.Raised.{Raised}

@@ -7,19 +7,19 @@ use Rattle.std.proofs.lemmas.Bool.{cases_eq, eq-eqb, or_right, or_left}
 use Rattle.std.proofs.lemmas.Grind.{get_or_default_zero}
 use Rattle.std.proofs.lemmas.List.Elements.{Contains-get_or}
 use Rattle.plane_base.specs.Plane.{Point, turn_of, IsMix}
-use Rattle.plane_base.proofs.Turns.{turn_cycle}
-use Rattle.plane_base.proofs.Mixes.{turn_on_side}
+use Rattle.plane_base.proofs.MixLaws.Turns.{turn_cycle}
+use Rattle.plane_base.proofs.MixLaws.Mixes.{turn_on_side}
 use Rattle.tin_base.specs.declared.frames.Frame.TheVariants.{Source}
 use Rattle.tin_base.specs.Triangulation.{Triangulation, place, corner_at, numbers_of, places}
 use Rattle.tin_base.specs.Soundness.{has, common_of, DoFit, IsSound}
 use Rattle.tin_base.specs.Limits.{IsWithinLimits}
-use Rattle.tin_base.proofs.Spots.{one}
-use Rattle.tin_base.proofs.Weights.{HasAll}
+use Rattle.tin_base.proofs.SegmentSpots.Spots.{one}
+use Rattle.tin_base.proofs.FrameImages.Weights.{HasAll}
 use Rattle.tin_index.specs.Sides.{HasCorner, corner_of, next_of, IsAcross, IsStar}
 use Rattle.tin_index.proofs.Corners.{Numbered, numbered, read_differ, own}
-use Rattle.plane_base.proofs.LeftOfSide.{overlap_at_side}
-use Rattle.tin_base.proofs.Overlap.{in_more}
-use Rattle.tin_base.proofs.Members.{one_of_three, has_first, has_second, has_third, has_common}
+use Rattle.plane_base.proofs.TriangleLaws.LeftOfSide.{overlap_at_side}
+use Rattle.tin_base.proofs.PieceChains.Overlap.{in_more}
+use Rattle.tin_base.proofs.TriangleLemmas.Members.{one_of_three, has_first, has_second, has_third, has_common}
 use Rattle.plain_laws.proofs.Booleans.{or_rest}
 
 -- three corners to the left of the way from corner c to corner d: f is the third of them

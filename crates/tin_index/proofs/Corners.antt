@@ -2,12 +2,12 @@
 use Rattle.std.proofs.Common.{◌≡◌, ◌≢◌, ℕ, zero, suc, ◌<◌, ℤ, pos, ◌<ℤ◌, true, List, [], ◌∷◌}
 use Rattle.std.proofs.Common.{length, get_or, All, refl, sym, ◌∙◌, subst, arith}
 use Rattle.plane_base.specs.Plane.{Point, turn_of}
-use Rattle.plane_base.proofs.Turns.{turn_cycle, turn_twice}
+use Rattle.plane_base.proofs.MixLaws.Turns.{turn_cycle, turn_twice}
 use Rattle.tin_base.specs.declared.frames.Frame.TheVariants.{Source}
 use Rattle.tin_base.specs.Triangulation.{Triangulation, place, corner_at, numbers_of, places}
 use Rattle.tin_base.specs.Soundness.{turn_of_three, has, IsSound}
 use Rattle.tin_base.specs.Limits.{IsWithinLimits}
-use Rattle.tin_base.proofs.Members.{has_first, has_second, has_third}
+use Rattle.tin_base.proofs.TriangleLemmas.Members.{has_first, has_second, has_third}
 use Rattle.std.proofs.lemmas.Int.{ints}
 
 pub not_zero : (z : ℤ) → pos 0 <ℤ z → z ≡ pos 0 → ⊥

@@ -6,17 +6,17 @@ use Rattle.integer_ring.proofs.Order.{≤_of_<}
 use Rattle.plane_base.specs.Plane.{Point, turn_of, IsMix, whole, corners_of}
 use Rattle.plane_base.specs.declared.shapes.Pt.{Pt}
 use Rattle.plane_base.specs.declared.shapes.Tri.{Tri}
-use Rattle.plane_base.proofs.InTriangle.{mix_of_turns}
-use Rattle.plane_base.proofs.Mixes.{turn_on_side}
+use Rattle.plane_base.proofs.TriangleLaws.InTriangle.{mix_of_turns}
+use Rattle.plane_base.proofs.MixLaws.Mixes.{turn_on_side}
 use Rattle.tin_base.specs.declared.frames.Frame.TheVariants.{Source}
 use Rattle.tin_base.specs.Triangulation.{Triangulation, place, corner_at, numbers_of, places, IsInTriangle}
 use Rattle.tin_base.specs.Soundness.{common_of, IsSound}
 use Rattle.tin_base.specs.Limits.{IsWithinLimits}
-use Rattle.tin_base.proofs.Spots.{one}
-use Rattle.tin_base.proofs.Weights.{HasAll, common_in_first}
+use Rattle.tin_base.proofs.SegmentSpots.Spots.{one}
+use Rattle.tin_base.proofs.FrameImages.Weights.{HasAll, common_in_first}
 use Rattle.tin_index.specs.InsideLocations.{IsInsideOf, IsOnlyIn}
-use Rattle.tin_base.proofs.Members.{has_first_of_two, has_second_of_two, one_of_three}
-use Rattle.tin_base.proofs.Overlap.{in_more}
+use Rattle.tin_base.proofs.TriangleLemmas.Members.{has_first_of_two, has_second_of_two, one_of_three}
+use Rattle.tin_base.proofs.PieceChains.Overlap.{in_more}
 use Rattle.tin_index.proofs.Corners.{not_zero}
 
 -- what a test of three numbers says of three that are equal to them

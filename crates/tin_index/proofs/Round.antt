@@ -18,7 +18,7 @@ use Rattle.tin_base.specs.Triangulation.{Triangulation, place, no_corner, corner
 use Rattle.tin_index.specs.Boxes.{source_at, IsNearCorners, IsOfOne, IsRound}
 use Rattle.tin_index.proofs.SourceBoxes.{standing, tri_of}
 use Rattle.tin_index.proofs.InBox.{in_box}
-use Rattle.plane_base.proofs.BoxLemmas.{lesser_is_one, greater_is_one}
+use Rattle.plane_base.proofs.Bounds.BoxLemmas.{lesser_is_one, greater_is_one}
 
 -- ---- corner by corner
 -- the corner as it is read

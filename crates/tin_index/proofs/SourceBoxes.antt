@@ -15,7 +15,7 @@ use Rattle.cell_grid.specs.Boxes.{AreOrdered, IsWithinSpan, AreWithinSpan, IsHol
 use Rattle.tin_base.specs.declared.frames.Frame.TheVariants.{Source}
 use Rattle.tin_base.specs.Triangulation.{Triangulation, place, corner_at, numbers_of, places, IsInTriangle}
 use Rattle.tin_base.specs.Limits.{IsWithinLimits}
-use Rattle.tin_base.proofs.TriangleCorners.{near_points}
+use Rattle.tin_base.proofs.TriangleLemmas.TriangleCorners.{near_points}
 use Rattle.plane_base.specs.Boxes.{box_of_triangle}
 use Rattle.tin_index.specs.Boxes.{source_at, AreBoxesOf}
 use Rattle.tin_index.proofs.InBox.{in_box}

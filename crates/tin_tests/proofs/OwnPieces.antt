@@ -10,7 +10,7 @@ use Rattle.tin_base.specs.Limits.{IsWithinLimits}
 use Rattle.tin_base.specs.Slices.{spot_of, IsSliceIn}
 use Rattle.tin_base.specs.Segments.{at_a}
 use Rattle.tin_base.specs.Pieces.{IsPiece}
-use Rattle.tin_base.proofs.SlicedParts.{part_told}
+use Rattle.tin_base.proofs.SegmentSpots.SlicedParts.{part_told}
 
 pub part_piece : (tin : Triangulation) (piece : Piece) (s : Stretch) → IsWithinLimits tin
     → piece.tri < length tin.triangles → piece.a ≢ piece.b → IsSliceIn tin piece.a piece.b piece.tri s

@@ -4,8 +4,8 @@ use Rattle.std.proofs.Common.{refl, sym, subst, arith}
 use lib.Signed.{lt_z_yes}
 use Rattle.plane_base.specs.Plane.{IsNear, whole}
 use Rattle.plane_base.specs.declared.shapes.Pt.{Pt}
-use Rattle.plane_base.proofs.Mixes.{mix_moved}
-use Rattle.plane_base.proofs.NearPoints.{near_small}
+use Rattle.plane_base.proofs.MixLaws.Mixes.{mix_moved}
+use Rattle.plane_base.proofs.Bounds.NearPoints.{near_small}
 use Rattle.tin_base.specs.declared.frames.Frame.TheVariants.{Source}
 use Rattle.tin_base.specs.declared.pieces.Piece.{Piece}
 use Rattle.tin_base.specs.Triangulation.{Triangulation, numbers_of, places, IsInTriangle}
@@ -15,7 +15,7 @@ use Rattle.meet_rel.proofs.ClipEnds.{same_or_different, different_not, some_a}
 use Rattle.meet_rel.proofs.Ways.{AreDifferent}
 use Rattle.topo_check.specs.Changes.{AreComparable, AreAllComparable}
 use Rattle.tin_tests.specs.Small.{IsSmall, IsSmallPiece, IsTried}
-use Rattle.tin_base.proofs.Spots.{spot_first, spot_last}
+use Rattle.tin_base.proofs.SegmentSpots.Spots.{spot_first, spot_last}
 
 one : pos 0 <ℤ pos 1
 one = lt_z_yes tt

@@ -1,9 +1,9 @@
 //! The names of the files that a run writes beside its report.
 
 ghost use Rattle.std.specs.Prelude.{◌≡◌, ◌++◌, IfOk, flat_map, map, string_bytes};
-ghost use Rattle.migrate.specs.Names.{names_in};
+ghost use Rattle.migrate_mode.specs.Names.{names_in};
 
-use migrate::cert_name;
+use migrate_mode::cert_name;
 use runs::output_name;
 use shelf_io::Name;
 use std::alloc::{AllocError, Global};

@@ -10,7 +10,7 @@ use fault_runs::asks_for_faults;
 use faults::list_on_files;
 use help::{PlacesHelp, USAGE, help_of};
 use job_words::Job;
-use migrate::Migration;
+use migrate_mode::Migration;
 use place_runs::{PlaceRunEnd, Request, read_request, run_to_end};
 use run_notes::{
     Usage, Words, left_out_kinds, say_degrees, say_layers, say_refusal, say_unwritten, steps_of,

@@ -9,10 +9,10 @@ use Rattle.plane_base.specs.Plane.{Point, Same, weighted_sum, IsMix, corners_of}
 use Rattle.plane_base.specs.declared.shapes.Rect.{Rect}
 use Rattle.plane_base.specs.declared.shapes.Tri.{Tri}
 use Rattle.plane_base.specs.Boxes.{HasPoint, IsIn, AreApart, box_of_triangle, common_of, box_of_boxes}
-use Rattle.plane_base.proofs.BoxLemmas.{moved_in, three_places, segment_in, segment_has, segment_least, inside_in}
-use Rattle.plane_base.proofs.BoxLemmas.{joined_has, joined_least, common_within, common_has, outer_has, ordered_with}
-use Rattle.plane_base.proofs.BoxLemmas.{none_in_both, in_larger}
-use Rattle.plane_base.proofs.Mixes.{same_refl, same_sym, weighed-place}
+use Rattle.plane_base.proofs.Bounds.BoxLemmas.{moved_in, three_places, segment_in, segment_has, segment_least, inside_in}
+use Rattle.plane_base.proofs.Bounds.BoxLemmas.{joined_has, joined_least, common_within, common_has, outer_has, ordered_with}
+use Rattle.plane_base.proofs.Bounds.BoxLemmas.{none_in_both, in_larger}
+use Rattle.plane_base.proofs.MixLaws.Mixes.{same_refl, same_sym, weighed-place}
 use Rattle.tin_base.specs.declared.frames.Frame.TheVariants.{Source, Target}
 use Rattle.tin_base.specs.declared.pieces.Piece.{Piece}
 use Rattle.tin_base.specs.declared.relations.Rel.TheVariants.{Apart}
@@ -22,7 +22,7 @@ use Rattle.tin_base.specs.Limits.{IsWithinLimits}
 use Rattle.tin_base.specs.Segments.{Part}
 use Rattle.tin_base.specs.Relations.{IsBetween}
 use Rattle.tin_base.specs.Pieces.{IsPieceOf, IsPieceInside, first_point, last_point}
-use Rattle.tin_base.proofs.Agreement.{all_images_agree}
+use Rattle.tin_base.proofs.FrameImages.Agreement.{all_images_agree}
 use Rattle.meet_rel.proofs.PieceClips.{range_of}
 use Rattle.meet_rel.proofs.ClipEnds.{piece_ends}
 use Rattle.topo_check.specs.Changes.{HadRelation, HasRelation}

@@ -8,8 +8,8 @@ use Rattle.plane_base.specs.Plane.{Point, whole, corners_of}
 use Rattle.plane_base.specs.declared.shapes.Pt.{Pt}
 use Rattle.plane_base.specs.declared.shapes.Rect.{Rect}
 use Rattle.plane_base.specs.declared.shapes.Tri.{Tri}
-use Rattle.plane_base.proofs.BoxLemmas.{lesser_greatest, greater_least, least_greatest, greatest_least, segment_ordered}
-use Rattle.plane_base.proofs.BoxLemmas.{between_in, inside_in, common_within, common_has, ordered_by, none_in_both}
+use Rattle.plane_base.proofs.Bounds.BoxLemmas.{lesser_greatest, greater_least, least_greatest, greatest_least, segment_ordered}
+use Rattle.plane_base.proofs.Bounds.BoxLemmas.{between_in, inside_in, common_within, common_has, ordered_by, none_in_both}
 use Rattle.tin_base.specs.declared.pieces.Piece.{Piece}
 use Rattle.tin_base.specs.declared.relations.Rel.TheVariants.{Apart}
 use Rattle.tin_base.specs.declared.frames.Frame.{Frame}

@@ -25,7 +25,7 @@ use Rattle.topo_check.specs.InsidePairs.{IsChanged, IsUnchanged, HasPair, AreCol
 use Rattle.topo_check.specs.InsidePairs.{IsPairOf}
 use Rattle.topo_check.specs.InsidePairs.{IsPairWith, DoShareIn}
 use Rattle.topo_check.proofs.Collects.{collect_more, collect_as, collect_none, collect_one}
-use Rattle.plane_base.proofs.BoxLemmas.{apart_or_not}
+use Rattle.plane_base.proofs.Bounds.BoxLemmas.{apart_or_not}
 use Rattle.topo_check.proofs.InBoxes.{far_had, far_has, rounded_boxed}
 use Rattle.topo_check.proofs.Images.{images_had, images_has}
 

@@ -11,7 +11,7 @@ use Rattle.tin_base.specs.Triangulation.{Triangulation}
 use Rattle.tin_base.specs.Segments.{Spot, Part, spot_at, IsBefore, IsShared, IsPart}
 use Rattle.tin_base.specs.Pieces.{IsPieceOf, first_point, last_point}
 use Rattle.tin_base.specs.Relations.{IsAnEnd, HaveRelation}
-use Rattle.tin_base.proofs.Ends.{mirrored, mirror_later}
+use Rattle.tin_base.proofs.SegmentSpots.Ends.{mirrored, mirror_later}
 use Rattle.meet_rel.proofs.Alike.{alike, first_turned}
 use Rattle.meet_rel.proofs.ClipEnds.{same_or_different, different_not}
 use Rattle.meet_rel.proofs.Ways.{AreDifferent}

@@ -12,17 +12,17 @@ use Rattle.integer_ring.proofs.Claims.{◌⇒◌, follows}
 use Rattle.plane_base.specs.Plane.{Point, Same, turn_of, IsMix, along}
 use Rattle.plane_base.specs.Slices.{IsParam}
 use Rattle.plane_base.specs.Laws.{AreFromTo}
-use Rattle.plane_base.proofs.Points.{turn, solve_at, follows_at}
-use Rattle.plane_base.proofs.Turns.{turn_swap}
-use Rattle.plane_base.proofs.Mixes.{same_refl, same_sym, same_trans, mix_moved, mixes_mix, mix_swapped}
-use Rattle.plane_base.proofs.InTriangle.{turns_of_mix, mix_of_turns}
-use Rattle.plane_base.proofs.Intervals.{segments_meet_in_intervals}
-use Rattle.plane_base.proofs.CommonPoints.{mix_of_side, in_or_out}
-use Rattle.plane_base.proofs.Parameters.{segments_have_parameters}
+use Rattle.plane_base.proofs.MixLaws.Points.{turn, solve_at, follows_at}
+use Rattle.plane_base.proofs.MixLaws.Turns.{turn_swap}
+use Rattle.plane_base.proofs.MixLaws.Mixes.{same_refl, same_sym, same_trans, mix_moved, mixes_mix, mix_swapped}
+use Rattle.plane_base.proofs.TriangleLaws.InTriangle.{turns_of_mix, mix_of_turns}
+use Rattle.plane_base.proofs.TriangleLaws.Intervals.{segments_meet_in_intervals}
+use Rattle.plane_base.proofs.TriangleLaws.CommonPoints.{mix_of_side, in_or_out}
+use Rattle.plane_base.proofs.MixLaws.Parameters.{segments_have_parameters}
 use Rattle.tin_base.specs.declared.relations.Rel.{Rel}
 use Rattle.tin_base.specs.declared.relations.Rel.TheVariants.{Apart, Touching, Crossing, Overlapping}
 use Rattle.tin_base.specs.Relations.{IsCommonPoint, IsOnlyCommonPoint, IsAnEnd, HaveRelation}
-use Rattle.tin_base.proofs.Overlap.{at_twice}
+use Rattle.tin_base.proofs.PieceChains.Overlap.{at_twice}
 use Rattle.meet_rel.proofs.Alike.{alike}
 use Rattle.meet_rel.proofs.Scale.{mix_first, mix_last}
 

@@ -9,7 +9,7 @@ use Rattle.std.proofs.lemmas.List.Elements.{Contains-push, Contains-push_cases, 
 use Rattle.std.proofs.lemmas.List.Quantifiers.{all_pairs_push}
 use Rattle.plain_laws.proofs.Order.{trichotomy}
 use Rattle.plane_base.specs.Plane.{Same, whole}
-use Rattle.plane_base.proofs.Mixes.{same_refl}
+use Rattle.plane_base.proofs.MixLaws.Mixes.{same_refl}
 use Rattle.tin_base.specs.declared.pieces.Piece.{Piece}
 use Rattle.tin_base.specs.declared.pieces.Change.{Change}
 use Rattle.tin_base.specs.declared.relations.Rel.{Rel}
@@ -17,8 +17,8 @@ use Rattle.tin_base.specs.declared.relations.Rel.TheVariants.{Apart, Touching, C
 use Rattle.tin_base.specs.Triangulation.{Triangulation}
 use Rattle.tin_base.specs.Segments.{Spot, Part, spot_at}
 use Rattle.tin_base.specs.Pieces.{IsPieceOf, IsPieceInside, first_point, last_point}
-use Rattle.tin_base.proofs.Spots.{one, same_of_spots}
-use Rattle.tin_base.proofs.Ends.{same_of}
+use Rattle.tin_base.proofs.SegmentSpots.Spots.{one, same_of_spots}
+use Rattle.tin_base.proofs.SegmentSpots.Ends.{same_of}
 use Rattle.meet_rel.proofs.Ways.{AreDifferent}
 use Rattle.meet_rel.proofs.ClipEnds.{same_or_different, different_not, has_ends}
 use Rattle.topo_check.specs.declared.comparisons.ChangedPair.{ChangedPair}

@@ -13,7 +13,7 @@ use Rattle.plane_base.specs.declared.shapes.Pt.{Pt}
 use Rattle.plane_base.specs.declared.shapes.Rect.{Rect}
 use Rattle.plane_base.specs.declared.shapes.TheConstants.{SPAN}
 use Rattle.plane_base.specs.Boxes.{IsIn, AreIn, common_of}
-use Rattle.plane_base.proofs.BoxLemmas.{mix_in, common_within, common_has, ordered_by}
+use Rattle.plane_base.proofs.Bounds.BoxLemmas.{mix_in, common_within, common_has, ordered_by}
 use Rattle.tin_base.specs.declared.frames.Frame.TheVariants.{Source}
 use Rattle.tin_base.specs.declared.pieces.Piece.{Piece}
 use Rattle.tin_base.specs.Triangulation.{Triangulation}

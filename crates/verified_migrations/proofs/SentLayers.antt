@@ -22,15 +22,15 @@ use Rattle.carry_map.specs.declared.layers.Carried.{Carried}
 use Rattle.job_words.specs.declared.formats.Format.{Format}
 use Rattle.layer_formats.specs.LayerOutcomes.{IsLayerText}
 use Rattle.layer_formats.specs.LayerTexts.{text_of}
-use Rattle.migrate.specs.LayerOutcomes.{IsCarried}
-use Rattle.migrate.specs.LayerRuns.{Setting, setting_of, Done, IsNextCarried, AreCarried}
-use Rattle.migrate.specs.Migrations.{all_files_in, file_in}
-use Rattle.migrate.specs.Names.{cert_name_in}
+use Rattle.migrate_mode.specs.LayerOutcomes.{IsCarried}
+use Rattle.migrate_mode.specs.LayerRuns.{Setting, setting_of, Done, IsNextCarried, AreCarried}
+use Rattle.migrate_mode.specs.Migrations.{all_files_in, file_in}
+use Rattle.migrate_mode.specs.Names.{cert_name_in}
 use Rattle.verify_mode.specs.Certificates.{IsCertifiedAs}
 use Rattle.verify_mode.specs.Verifications.{IsVerified, certified_text}
 use Rattle.verified_migrations.specs.Laws.{MigrationsAreVerified}
 use Rattle.verified_migrations.proofs.PieceCertificates.{certify}
-use Rattle.migrate.proofs.SomeMigration.{within_way}
+use Rattle.migrate_mode.proofs.SomeMigration.{within_way}
 
 -- ---- the layer of a number
 -- it is carried after some bytes and pieces, and its two files are at these places of what is made

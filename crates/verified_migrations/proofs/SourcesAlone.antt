@@ -31,12 +31,12 @@ use Rattle.runs.specs.Laws.{TinEndIsOne}
 use Rattle.runs.specs.Output.{name_in}
 use Rattle.runs.specs.Triangulations.{HasDirected, IsTinRefused, directed_tin}
 use Rattle.runs.proofs.OneTin.{sound_of, sound_way}
-use Rattle.migrate.specs.declared.migrations.Migration.{Migration}
-use Rattle.migrate.specs.LayerOutcomes.{IsCarried, IsOutside}
-use Rattle.migrate.specs.LayerRuns.{setting_of, Done, IsLayerFile, AreCarried, IsNextRefused}
-use Rattle.migrate.specs.LayerRuns.{IsRefusedLayer, AreRefused, at_layer, at_changes}
-use Rattle.migrate.specs.Migrations.{IsMigrationRefused, by_tin, by_layers, by_sides, IsMigrationDone, all_files_in}
-use Rattle.migrate.specs.Laws.{End, IsMigrationEnd}
+use Rattle.migrate_mode.specs.declared.migrations.Migration.{Migration}
+use Rattle.migrate_mode.specs.LayerOutcomes.{IsCarried, IsOutside}
+use Rattle.migrate_mode.specs.LayerRuns.{setting_of, Done, IsLayerFile, AreCarried, IsNextRefused}
+use Rattle.migrate_mode.specs.LayerRuns.{IsRefusedLayer, AreRefused, at_layer, at_changes}
+use Rattle.migrate_mode.specs.Migrations.{IsMigrationRefused, by_tin, by_layers, by_sides, IsMigrationDone, all_files_in}
+use Rattle.migrate_mode.specs.Laws.{End, IsMigrationEnd}
 use Rattle.verify_mode.specs.declared.verifications.Verification.{Verification}
 use Rattle.verified_migrations.specs.Receivers.{IsOfSourceAlone, WritesOrHasTooMany}
 use Rattle.verified_migrations.specs.Laws.{VerifiedLayersAreMigrated}

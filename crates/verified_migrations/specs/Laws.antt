@@ -17,9 +17,9 @@ use Rattle.cert_check.specs.PieceLists.{lists_of}
 use Rattle.cert_check.specs.Checks.{IsCertified}
 use Rattle.runs.specs.declared.status.Status.{Status}
 use Rattle.runs.specs.declared.status.Status.TheVariants.{Same}
-use Rattle.migrate.specs.declared.migrations.Migration.{Migration}
-use Rattle.migrate.specs.Migrations.{IsMigrationDone}
-use Rattle.migrate.specs.Laws.{End, IsMigrationEnd}
+use Rattle.migrate_mode.specs.declared.migrations.Migration.{Migration}
+use Rattle.migrate_mode.specs.Migrations.{IsMigrationDone}
+use Rattle.migrate_mode.specs.Laws.{End, IsMigrationEnd}
 use Rattle.verify_mode.specs.declared.verifications.Verification.{Verification}
 use Rattle.verify_mode.specs.Verifications.{IsVerified, certified_text}
 use Rattle.verified_migrations.specs.Receivers.{AreSent, IsOfSourceAlone, WritesOrHasTooMany}

@@ -13,9 +13,9 @@ pub use Rattle.cert_check.specs.PieceLists
 pub use Rattle.cert_check.specs.Checks
 pub use Rattle.job_words.specs.Formats
 pub use Rattle.runs.specs.Output
-pub use Rattle.migrate.specs.Names
-pub use Rattle.migrate.specs.Migrations
-pub use Rattle.migrate.specs.Laws as MigrationLaws
+pub use Rattle.migrate_mode.specs.Names
+pub use Rattle.migrate_mode.specs.Migrations
+pub use Rattle.migrate_mode.specs.Laws as MigrationLaws
 pub use Rattle.verify_mode.specs.Files as VerifiedFiles
 pub use Rattle.verify_mode.specs.Verifications
 pub mod Receivers

@@ -5,9 +5,9 @@ use Rattle.job_words.specs.Formats.{format_by_name}
 use Rattle.runs.specs.declared.loads.TheConstants.{MOST_VERIFIED}
 use Rattle.runs.specs.Output.{name_in}
 use Rattle.runs.specs.declared.refusal.Refusal.TheVariants.{TooManyPieces, TooManyChanges, TooManySides}
-use Rattle.migrate.specs.declared.migrations.Migration.{Migration}
-use Rattle.migrate.specs.Names.{cert_name_in}
-use Rattle.migrate.specs.Laws.{End}
+use Rattle.migrate_mode.specs.declared.migrations.Migration.{Migration}
+use Rattle.migrate_mode.specs.Names.{cert_name_in}
+use Rattle.migrate_mode.specs.Laws.{End}
 use Rattle.verify_mode.specs.declared.verifications.Verification.{Verification}
 use Rattle.verify_mode.specs.Files.{IsFileWithin}
 

@@ -9,8 +9,8 @@ use Rattle.runs.specs.Refusals.{status_of}
 use Rattle.runs.specs.Counts.{ShelfCounts}
 use Rattle.runs.specs.Causes.{HasCauses}
 use Rattle.runs.proofs.Faults.{of_text, of_check, of_layer, tin_understood, layer_understood}
-use Rattle.migrate.specs.Maker.{IsOfMaking}
-use Rattle.migrate.proofs.MakerSteps.{never_read}
+use Rattle.migrate_mode.specs.Maker.{IsOfMaking}
+use Rattle.migrate_mode.proofs.MakerSteps.{never_read}
 
 -- of what is made the words are understood, and no file is read
 understood : (refusal : Refusal) → IsOfMaking refusal → status_of refusal ≢ WordsStatus

@@ -6,11 +6,11 @@ use Rattle.job_words.specs.declared.jobs.Job.{Job}
 use Rattle.job_words.specs.declared.jobs.Job.TheVariants.{Migrate, Check as CheckJob, Make, Verify, Heights}
 use Rattle.runs.specs.declared.status.Status.{Status}
 use Rattle.runs.specs.declared.refusal.Refusal.TheVariants.{Words, NoMemory}
-use Rattle.migrate.specs.declared.migrations.Migration.{Migration}
-use Rattle.migrate.specs.Migrations.{IsMigrationDone}
-use Rattle.migrate.specs.Maker.{IsMakingDone}
-use Rattle.migrate.specs.KeptRelations.{KeepsRelations, KeepsMadeRelations}
-use Rattle.migrate.proofs.KeptMigrations.{refused_so, migrated_keeps, made_refused, making_keeps}
+use Rattle.migrate_mode.specs.declared.migrations.Migration.{Migration}
+use Rattle.migrate_mode.specs.Migrations.{IsMigrationDone}
+use Rattle.migrate_mode.specs.Maker.{IsMakingDone}
+use Rattle.migrate_mode.specs.KeptRelations.{KeepsRelations, KeepsMadeRelations}
+use Rattle.migrate_mode.proofs.KeptMigrations.{refused_so, migrated_keeps, made_refused, making_keeps}
 use Rattle.whole_runs.specs.Jobs.{migration_with, AsksMigration, AsksMaking}
 use Rattle.whole_runs.specs.Outcome.{HasOutcome, no_job, refused, done}
 use Rattle.publication.specs.RunEnds.{Ends, made_whole, after_write_fault}

@@ -15,7 +15,7 @@ use Rattle.runs.specs.Refusals.{status_of, line_of}
 use Rattle.runs.specs.Laws.{IsTinEnd}
 use Rattle.runs.proofs.OneTin.{tin_end_is_one}
 use Rattle.check_mode.specs.Checks.{sound_text}
-use Rattle.migrate.specs.Laws.{End, IsMigrationEnd, IsMakingEnd, MigrationIsOne, MakingIsOne}
+use Rattle.migrate_mode.specs.Laws.{End, IsMigrationEnd, IsMakingEnd, MigrationIsOne, MakingIsOne}
 use Rattle.verify_mode.specs.Laws.{IsVerificationEnd, VerificationIsOne}
 use Rattle.height_mode.specs.Laws.{IsHeightsEnd, HeightsAreOne}
 use Rattle.whole_runs.specs.Jobs.{migration_with, verification_with, heights_with}

@@ -15,7 +15,7 @@ use Rattle.runs.specs.Refusals.{status_of, line_file}
 use Rattle.runs.specs.Causes.{by_the_files, unread, no_room}
 use Rattle.runs.proofs.RefusalLines.{memory-line}
 use Rattle.runs.proofs.RunEnds.{by_memory}
-use Rattle.migrate.specs.Maker.{MayNotBeMade}
+use Rattle.migrate_mode.specs.Maker.{MayNotBeMade}
 use Rattle.whole_runs.specs.Outcome.{IsJobDone, no_job, refused, done}
 use Rattle.publication.specs.Fronts.{HasWritten}
 use Rattle.whole_runs.specs.Ends.{Makes, by_outcome, after_read_fault, out_of_memory, IsToBeMade, HasMadeAfter}

@@ -13,7 +13,7 @@ use Rattle.runs.specs.declared.refusal.Refusal.{Refusal}
 use Rattle.runs.specs.declared.refusal.Refusal.TheVariants.{Words}
 use Rattle.runs.specs.Refusals.{status_of, line_file}
 use Rattle.check_mode.specs.Laws.{CheckEndExists}
-use Rattle.migrate.specs.Laws.{End, IsMigrationEnd, IsMakingEnd, MigrationExists, MakingExists}
+use Rattle.migrate_mode.specs.Laws.{End, IsMigrationEnd, IsMakingEnd, MigrationExists, MakingExists}
 use Rattle.verify_mode.specs.Laws.{IsVerificationEnd, VerificationExists}
 use Rattle.height_mode.specs.Laws.{IsHeightsEnd, HeightsExist}
 use Rattle.whole_runs.specs.Jobs.{migration_with, verification_with, heights_with}

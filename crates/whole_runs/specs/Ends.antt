@@ -12,8 +12,8 @@ use Rattle.runs.specs.declared.refusal.Refusal.TheVariants.{TinUnread, NoMemory}
 use Rattle.runs.specs.Refusals.{Refuses, written_front, cert_front}
 use Rattle.runs.specs.Causes.{MayRefuse}
 use Rattle.check_mode.specs.Checks.{IsCheckWritten, IsEndOfCheck}
-use Rattle.migrate.specs.Migrations.{IsReachedByOver, LacksWanted, IsMigrationWritten}
-use Rattle.migrate.specs.Maker.{IsMakingWritten}
+use Rattle.migrate_mode.specs.Migrations.{IsReachedByOver, LacksWanted, IsMigrationWritten}
+use Rattle.migrate_mode.specs.Maker.{IsMakingWritten}
 use Rattle.verify_mode.specs.Files.{LacksCompared}
 use Rattle.verify_mode.specs.Verifications.{IsComparedByOver, IsVerificationWritten, IsEndOfVerification}
 use Rattle.height_mode.specs.Heights.{IsListReachedByOver, IsHeightsWritten, LacksListed, IsEndOfHeights}

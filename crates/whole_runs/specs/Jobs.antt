@@ -4,7 +4,7 @@ use Rattle.sheet_base.specs.declared.flags.How.{How}
 use Rattle.job_words.specs.declared.jobs.Job.TheVariants.{Migrate, Check, Make, Verify, Heights as MoveHeights}
 use Rattle.job_words.specs.declared.faults.WordsFault.{WordsFault}
 use Rattle.job_words.specs.Jobs.{IsJobOf, IsWordsFault}
-use Rattle.migrate.specs.declared.migrations.Migration.{Migration}
+use Rattle.migrate_mode.specs.declared.migrations.Migration.{Migration}
 use Rattle.height_mode.specs.declared.heights.HeightJob.{HeightJob}
 use Rattle.verify_mode.specs.declared.verifications.Verification.{Verification}
 

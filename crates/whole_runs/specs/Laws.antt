@@ -3,8 +3,8 @@ use Rattle.std.specs.Prelude.{◌≡◌, ℕ, List, Option}
 use Rattle.shelf_io.specs.Count.{Rose}
 use Rattle.shelf_io.specs.Files.{Files}
 use Rattle.runs.specs.declared.status.Status.{Status}
-use Rattle.migrate.specs.declared.migrations.Migration.{Migration}
-use Rattle.migrate.specs.KeptRelations.{KeepsRelations, KeepsMadeRelations}
+use Rattle.migrate_mode.specs.declared.migrations.Migration.{Migration}
+use Rattle.migrate_mode.specs.KeptRelations.{KeepsRelations, KeepsMadeRelations}
 use Rattle.whole_runs.specs.Jobs.{AsksMigration, AsksMaking}
 use Rattle.whole_runs.specs.Outcome.{HasOutcome}
 use Rattle.whole_runs.specs.Ends.{EndsTold}

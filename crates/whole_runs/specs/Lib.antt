@@ -14,9 +14,9 @@ pub use Rattle.runs.specs.Triangulations
 pub use Rattle.publication.specs.Fronts
 pub use Rattle.publication.specs.RunEnds as PublicationRunEnds
 pub use Rattle.publication.specs.Rooms
-pub use Rattle.migrate.specs.KeptRelations
-pub use Rattle.migrate.specs.Maker
-pub use Rattle.migrate.specs.Migrations
+pub use Rattle.migrate_mode.specs.KeptRelations
+pub use Rattle.migrate_mode.specs.Maker
+pub use Rattle.migrate_mode.specs.Migrations
 pub use Rattle.check_mode.specs.Checks
 pub use Rattle.verify_mode.specs.Files as VerifyModeFiles
 pub use Rattle.verify_mode.specs.Verifications

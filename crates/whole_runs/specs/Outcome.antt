@@ -11,8 +11,8 @@ use Rattle.runs.specs.declared.refusal.Refusal.TheVariants.{Words}
 use Rattle.runs.specs.Triangulations.{IsTinRefusedOver}
 use Rattle.runs.specs.Refusals.{Refuses}
 use Rattle.check_mode.specs.Checks.{IsChecked}
-use Rattle.migrate.specs.Migrations.{IsMigrationRefused, IsMigrationRefusedOver, IsMigrationDone}
-use Rattle.migrate.specs.Maker.{made_files, made_migration, IsMakingDone}
+use Rattle.migrate_mode.specs.Migrations.{IsMigrationRefused, IsMigrationRefusedOver, IsMigrationDone}
+use Rattle.migrate_mode.specs.Maker.{made_files, made_migration, IsMakingDone}
 use Rattle.verify_mode.specs.Verifications.{IsVerificationRefusedOver, IsVerified}
 use Rattle.height_mode.specs.Heights.{IsHeightsRefusedOver, AreMoved}
 use Rattle.whole_runs.specs.Jobs.{migration_with, verification_with, heights_with}

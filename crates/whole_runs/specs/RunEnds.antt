@@ -7,8 +7,8 @@ use Rattle.runs.specs.declared.loads.TheConstants.{MOST_VERIFIED}
 use Rattle.runs.specs.declared.status.Status.{Status}
 use Rattle.runs.specs.declared.status.Status.TheVariants.{Same, Changed, Read}
 use Rattle.runs.specs.Counts.{ShelfCounts, HasGivenMore}
-use Rattle.migrate.specs.declared.migrations.Migration.{Migration}
-use Rattle.migrate.specs.KeptRelations.{KeepsRelations, KeepsMadeRelations}
+use Rattle.migrate_mode.specs.declared.migrations.Migration.{Migration}
+use Rattle.migrate_mode.specs.KeptRelations.{KeepsRelations, KeepsMadeRelations}
 use Rattle.whole_runs.specs.Jobs.{AsksMigration, AsksMaking, WantNoFile}
 use Rattle.whole_runs.specs.Outcome.{IsJobDone}
 use Rattle.whole_runs.specs.Ends.{EndsTold, HasMadeAfter, MayEnd, TellsVerifiedBytes}

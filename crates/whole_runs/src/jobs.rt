@@ -15,7 +15,7 @@ ghost use Rattle.whole_runs.specs.HandedOut.{IsRefusalOfJob, IsReportOf, IsSound
 use check_mode::prepare_check;
 use height_mode::{HeightJob, prepare_heights};
 use job_words::Job;
-use migrate::{Migration, prepare_making, prepare_migration};
+use migrate_mode::{Migration, prepare_making, prepare_migration};
 use report_text::Report;
 use runs::{Refusal, RunOutput};
 use shelf_io::Shelf;

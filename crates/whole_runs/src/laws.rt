@@ -6,8 +6,8 @@ ghost use Rattle.whole_runs.specs.Laws.{OutcomeExists, OutcomeIsOne, EndKeepsRel
 pub fn outcome_is_one()
     ensures { OutcomeIsOne }
 {
-    migrate::migration_is_one();
-    migrate::making_is_one();
+    migrate_mode::migration_is_one();
+    migrate_mode::making_is_one();
     verify_mode::verification_is_one();
     height_mode::heights_are_one();
 }
@@ -18,8 +18,8 @@ pub fn outcome_exists()
 {
     job_words::words_have_one_answer();
     job_words::jobs_are_kept();
-    migrate::migration_exists();
-    migrate::making_exists();
+    migrate_mode::migration_exists();
+    migrate_mode::making_exists();
     check_mode::check_end_exists();
     verify_mode::verification_exists();
     height_mode::heights_exist();

@@ -1,31 +1,6 @@
--- The files of lemmas of wkt_layer.
-mod Rests
-mod Items
-mod Rings
-mod GrammarTokens
-mod AllowedTokens
-mod Completions
-mod LinePasses
-mod StatesBefore
-mod InBrackets
-mod TokenFaults
-mod SheetSoFar
-mod CodeSteps
-mod FirstLines
-mod TokenReads
-mod Sheets
-mod LayerLines
-mod EditOrder
-mod OneSheet
-mod TokenCuts
-mod ImageTexts
-mod Turns
-mod PointTurns
-mod GeometryTurns
-mod LineTurns
-mod SheetTurns
-mod ReadingBack
-mod OneFault
-mod SomeOutcome
-mod ReadSheets
-mod MemoryFaults
+-- The lemmas of wkt_layer, in folders by subject.
+mod Grammar
+mod Faults
+mod CodeReads
+mod SheetLaws
+mod WrittenLayers

@@ -1,6 +1,6 @@
 -- Answers to the goals of `side_param` in src/crossings.rt.
 use Rattle.tin_base.specs.declared.frames.Frame.TheVariants.{Source}
-use Rattle.tin_base.proofs.TriangleCorners.{near_points}
+use Rattle.tin_base.proofs.TriangleLemmas.TriangleCorners.{near_points}
 use Rattle.affine_image.proofs.crossings.side_param.Goals as goal
 
 pub edge_param-requires-clause-near_p : goal.edge_param-requires-clause-near_p

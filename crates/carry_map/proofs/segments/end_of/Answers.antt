@@ -7,7 +7,7 @@ use Rattle.tin_base.specs.Segments.{spot_at}
 use Rattle.tin_base.specs.Slices.{spot_of}
 use Rattle.affine_image.proofs.PlaceImages.{rounded_moved}
 use Rattle.carry_map.proofs.segments.end_of.Goals as goal
-use Rattle.tin_base.proofs.Spots.{spot_of_point}
+use Rattle.tin_base.proofs.SegmentSpots.Spots.{spot_of_point}
 
 pub returns-then-is_same : goal.returns-then-is_same
 returns-then-is_same c =

@@ -1,6 +1,6 @@
 -- Answers to the goals of `tell_pieces` in src/segments.rt.
 use Rattle.std.proofs.Common.{◌≡◌, length, vec_len, sym, ◌∙◌, arith}
-use Rattle.tin_base.proofs.NearTriangles.{ends_near}
+use Rattle.tin_base.proofs.TriangleLemmas.NearTriangles.{ends_near}
 use Rattle.carry_map.proofs.StepPieces.{told_none, told_next, told_all, told_count, step_told, part_count}
 use Rattle.carry_map.proofs.segments.tell_pieces.Goals as goal
 

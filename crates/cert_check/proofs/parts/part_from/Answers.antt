@@ -1,6 +1,6 @@
 -- Answers to the goals of `part_from` in src/parts.rt.
 use Rattle.std.proofs.Common.{arith}
-use Rattle.tin_base.proofs.SlicedParts.{not_begun}
+use Rattle.tin_base.proofs.SegmentSpots.SlicedParts.{not_begun}
 use Rattle.cert_check.proofs.Stretches.{part_here}
 use Rattle.cert_check.proofs.ListPasses.{refused}
 use Rattle.cert_check.proofs.parts.part_from.Goals as goal

@@ -1,6 +1,6 @@
 -- Answers to the goals of `stretch_in` in src/parts.rt.
-use Rattle.tin_base.proofs.NearTriangles.{ends_near, near_told}
-use Rattle.tin_base.proofs.SlicedParts.{slice_told}
+use Rattle.tin_base.proofs.TriangleLemmas.NearTriangles.{ends_near, near_told}
+use Rattle.tin_base.proofs.SegmentSpots.SlicedParts.{slice_told}
 use Rattle.cert_check.proofs.Stretches.{none_shared, near_some}
 use Rattle.cert_check.proofs.ListPasses.{refused}
 use Rattle.cert_check.proofs.parts.stretch_in.Goals as goal

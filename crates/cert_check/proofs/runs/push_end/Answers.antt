@@ -1,7 +1,7 @@
 -- Answers to the goals of `push_end` in src/runs.rt.
 use Rattle.std.proofs.Common.{◌++◌, ◌∷◌, [], ◌∙◌, ap}
 use Rattle.sheet_base.specs.PointHeights.{Height}
-use Rattle.tin_base.proofs.SlicedParts.{params}
+use Rattle.tin_base.proofs.SegmentSpots.SlicedParts.{params}
 use Rattle.sheet_pieces.specs.SpotHeights.{param_height}
 use Rattle.cert_check.proofs.RunLaws.{end_told, height_told, part_range, part_shared}
 use Rattle.cert_check.proofs.runs.push_end.Goals as goal

@@ -5,9 +5,9 @@ use Rattle.sheet_base.specs.Sheets.{Contents}
 use Rattle.sheet_base.specs.PointHeights.{IsHeightWithinReach}
 use Rattle.dxf_layer.specs.InsideEditOrder.{in_order}
 use Rattle.dxf_entities.specs.DrawingContents.{contents_of}
-use Rattle.dxf_layer.proofs.SheetOrder.{few_pairs, read_whole}
+use Rattle.dxf_layer.proofs.SheetEdits.SheetOrder.{few_pairs, read_whole}
 use Rattle.dxf_layer.specs.Drawings.{drawing_sheet}
-use Rattle.dxf_layer.proofs.WalkedSheets.{code_read, code_refused, fault_on}
+use Rattle.dxf_layer.proofs.EntityWalks.WalkedSheets.{code_read, code_refused, fault_on}
 use Rattle.dxf_layer.proofs.drawing_texts.read_drawing.Goals as goal
 
 pub read_entities-requires-clause-few : goal.read_entities-requires-clause-few

@@ -9,7 +9,7 @@ use Rattle.dxf_layer.specs.InsideStands.{room_before, GoesTo, GrowsAlong}
 use Rattle.dxf_entities.proofs.ReadSizes.{holds_more}
 use Rattle.dxf_entities.proofs.HandedFaults.{handed_on}
 use Rattle.dxf_entities.proofs.Vertices.{rest_is}
-use Rattle.dxf_layer.proofs.Visits.{IsWalkedTo, nothing_walked, pair_walked, walk_refused, room_short}
+use Rattle.dxf_layer.proofs.EntityWalks.Visits.{IsWalkedTo, nothing_walked, pair_walked, walk_refused, room_short}
 use Rattle.dxf_entities.proofs.NoPairs.{no_pair}
 use Rattle.dxf_layer.proofs.drawing_texts.read_entities.Goals as goal
 

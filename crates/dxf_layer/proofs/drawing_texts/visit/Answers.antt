@@ -8,7 +8,7 @@ use Rattle.dxf_entities.specs.DrawingContents.{contents_of}
 use Rattle.dxf_layer.specs.InsideStands.{room_before}
 use Rattle.dxf_entities.proofs.Vertices.{rest_is}
 use Rattle.dxf_entities.proofs.NoPairs.{no_pair}
-use Rattle.dxf_layer.proofs.Visits.{grows_along}
+use Rattle.dxf_layer.proofs.EntityWalks.Visits.{grows_along}
 use Rattle.dxf_layer.proofs.drawing_texts.visit.Goals as goal
 
 pub returns-then-begins_entity-clause-grown : goal.returns-then-begins_entity-clause-grown

@@ -1,5 +1,5 @@
 -- Answers to the goals of `copies_are_of_entities` in src/laws.rt.
-use Rattle.dxf_layer.proofs.WrittenCopies.{copies_are_of_entities}
+use Rattle.dxf_layer.proofs.WrittenDrawings.WrittenCopies.{copies_are_of_entities}
 use Rattle.dxf_layer.proofs.laws.copies_are_of_entities.Goals as goal
 
 pub returns : goal.returns

@@ -1,5 +1,5 @@
 -- Answers to the goals of `drawings_read_back` in src/laws.rt.
-use Rattle.dxf_layer.proofs.DrawingsReadBack.{read_back}
+use Rattle.dxf_layer.proofs.WrittenDrawings.DrawingsReadBack.{read_back}
 use Rattle.dxf_layer.proofs.laws.drawings_read_back.Goals as goal
 
 pub returns : goal.returns

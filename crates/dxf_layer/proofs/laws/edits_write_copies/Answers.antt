@@ -1,5 +1,5 @@
 -- Answers to the goals of `edits_write_copies` in src/laws.rt.
-use Rattle.dxf_layer.proofs.WrittenCopies.{edits_write_copies}
+use Rattle.dxf_layer.proofs.WrittenDrawings.WrittenCopies.{edits_write_copies}
 use Rattle.dxf_layer.proofs.laws.edits_write_copies.Goals as goal
 
 pub returns : goal.returns

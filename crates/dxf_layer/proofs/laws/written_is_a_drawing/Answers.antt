@@ -1,5 +1,5 @@
 -- Answers to the goals of `written_is_a_drawing` in src/laws.rt.
-use Rattle.dxf_layer.proofs.WrittenPairs.{written_is_a_drawing}
+use Rattle.dxf_layer.proofs.WrittenDrawings.WrittenPairs.{written_is_a_drawing}
 use Rattle.dxf_layer.proofs.laws.written_is_a_drawing.Goals as goal
 
 pub returns : goal.returns

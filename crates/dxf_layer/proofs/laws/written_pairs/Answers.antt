@@ -1,5 +1,5 @@
 -- Answers to the goals of `written_pairs` in src/laws.rt.
-use Rattle.dxf_layer.proofs.WrittenPairs.{written}
+use Rattle.dxf_layer.proofs.WrittenDrawings.WrittenPairs.{written}
 use Rattle.dxf_layer.proofs.laws.written_pairs.Goals as goal
 
 pub returns : goal.returns

@@ -6,7 +6,7 @@ use Rattle.sheet_base.proofs.SpliceLaws.{if_ok_more, splices_keep}
 use Rattle.dxf_pairs.specs.declared.faults.PairFault.{PairFault}
 use Rattle.dxf_pairs.specs.declared.pairs.Pair.{Pair}
 use Rattle.dxf_copies.specs.Rendering.{text_by, text_of, drawing_text}
-use Rattle.dxf_layer.proofs.WalkedSheets.{sheet_in_order}
+use Rattle.dxf_layer.proofs.EntityWalks.WalkedSheets.{sheet_in_order}
 use Rattle.dxf_layer.proofs.rendering.render_drawing.Goals as goal
 
 pub render_page-requires-clause-order : goal.render_page-requires-clause-order

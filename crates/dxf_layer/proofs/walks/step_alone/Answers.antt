@@ -3,7 +3,7 @@ use Rattle.std.proofs.Common.{◌≡◌, sym, Ok}
 use Rattle.dxf_entities.specs.EntityViews.{entity_view}
 use Rattle.dxf_entities.specs.Kinds.{upright, shapes_of}
 use Rattle.dxf_entities.specs.DrawingContents.{contents_of}
-use Rattle.dxf_layer.proofs.WalkSteps.{alone_goes}
+use Rattle.dxf_layer.proofs.EntityWalks.WalkSteps.{alone_goes}
 use Rattle.dxf_layer.proofs.walks.step_alone.Goals as goal
 
 pub returns-clause-goes : goal.returns-clause-goes

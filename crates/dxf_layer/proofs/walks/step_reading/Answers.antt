@@ -5,7 +5,7 @@ use Rattle.dxf_entities.specs.EntityViews.{entity_view}
 use Rattle.dxf_entities.specs.Entities.{is_of_kind}
 use Rattle.dxf_entities.specs.Polylines.{entity_vertex}
 use Rattle.dxf_entities.specs.DrawingContents.{with_own_vertex}
-use Rattle.dxf_layer.proofs.WalkSteps.{own_behind}
+use Rattle.dxf_layer.proofs.EntityWalks.WalkSteps.{own_behind}
 use Rattle.dxf_layer.proofs.walks.step_reading.Goals as goal
 
 pub returns-in_ok-add_own_vertex-clause-goes : goal.returns-in_ok-add_own_vertex-clause-goes

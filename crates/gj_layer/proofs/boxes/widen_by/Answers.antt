@@ -4,7 +4,7 @@ use Rattle.sheet_base.specs.PointHeights.{Position}
 use Rattle.sheet_base.specs.ImageFits.{positions_in}
 use Rattle.sheet_base.proofs.PositionLists.{position_is, paired_more}
 use Rattle.gj_layer.specs.InsideBoxes.{widened_by}
-use Rattle.gj_layer.proofs.BoxLemmas.{widened_append}
+use Rattle.gj_layer.proofs.WrittenPaths.BoxLemmas.{widened_append}
 use Rattle.gj_layer.proofs.boxes.widen_by.Goals as goal
 
 pub loop-number-preserved : goal.loop-number-preserved

@@ -1,7 +1,7 @@
 -- Answers to the goals of `end_object` in src/frames.rt.
 use Rattle.std.proofs.Common.{◌≡◌, ◌++◌, length, vec_len, refl, ◌∙◌, arith}
 use Rattle.gj_layer.specs.InsideFrames.{fronts, behinds, edit_list}
-use Rattle.gj_layer.proofs.ObjectEnds.{end_holds}
+use Rattle.gj_layer.proofs.OpenObjects.ObjectEnds.{end_holds}
 use Rattle.gj_layer.proofs.frames.end_object.Goals as goal
 
 pub returns-clause-holds : goal.returns-clause-holds

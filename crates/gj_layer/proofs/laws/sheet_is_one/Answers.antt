@@ -1,5 +1,5 @@
 -- The proof of the law `sheet_is_one` in src/laws.rt.
-use Rattle.gj_layer.proofs.OneSheet.{sheet_one, sheet_apart, fault_one}
+use Rattle.gj_layer.proofs.Outcomes.OneSheet.{sheet_one, sheet_apart, fault_one}
 use Rattle.gj_layer.proofs.laws.sheet_is_one.Goals as goal
 
 pub returns-clause-one : goal.returns-clause-one

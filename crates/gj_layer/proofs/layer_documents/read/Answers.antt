@@ -1,5 +1,5 @@
 -- Answers to the goals of `read` in src/layer_documents.rt.
-use Rattle.gj_layer.proofs.Documents.{order_given}
+use Rattle.gj_layer.proofs.OpenObjects.Documents.{order_given}
 use Rattle.gj_layer.proofs.layer_documents.read.Goals as goal
 
 pub returns-in-Ok-clause-edits : goal.returns-in-Ok-clause-edits

@@ -3,7 +3,7 @@ use Rattle.std.proofs.Common.{◌∷◌, subst, List, arith}
 use Rattle.gj_layer.specs.declared.frames.OpenFrame.{OpenFrame}
 use Rattle.gj_layer.specs.InsideNodes.{HasRoom}
 use Rattle.gj_layer.specs.InsideFrames.{Going, left_in}
-use Rattle.gj_layer.proofs.OpenWalks.{room_less}
+use Rattle.gj_layer.proofs.OpenObjects.OpenWalks.{room_less}
 use Rattle.gj_layer.proofs.layer_documents.read_all.Goals as goal
 
 pub step_in-requires-clause-going : goal.step_in-requires-clause-going

@@ -1,13 +1,13 @@
 -- Answers to the goals of `read_document` in src/layer_documents.rt.
 use Rattle.std.proofs.Common.{◌≡◌, ◌∙◌, arith}
 use Rattle.jtext.specs.Places.{whole_start}
-use Rattle.jtext.proofs.NodePlaces.{reading_stands}
+use Rattle.jtext.proofs.CallerLemmas.NodePlaces.{reading_stands}
 use Rattle.gj_layer.specs.Paths.{sheet_of}
 use Rattle.gj_layer.specs.Layers.{layer_reading}
 use Rattle.sheet_base.proofs.HandedOn.{passed_on}
-use Rattle.gj_layer.proofs.AnswerLaws.{give_fault}
-use Rattle.gj_layer.proofs.OpenWalks.{within_nodes}
-use Rattle.gj_layer.proofs.Documents.{begins, held_sheet, held_is_sheet}
+use Rattle.gj_layer.proofs.OpenObjects.AnswerLaws.{give_fault}
+use Rattle.gj_layer.proofs.OpenObjects.OpenWalks.{within_nodes}
+use Rattle.gj_layer.proofs.OpenObjects.Documents.{begins, held_sheet, held_is_sheet}
 use Rattle.gj_layer.proofs.layer_documents.read_document.Goals as goal
 
 pub node_at-requires : goal.node_at-requires

@@ -1,9 +1,9 @@
 -- Answers to the goals of `read_item` in src/layer_documents.rt.
 use Rattle.std.proofs.Common.{length, ap, ◌∙◌, arith}
 use Rattle.gj_layer.specs.Documents.{reading}
-use Rattle.gj_layer.proofs.There.{node_there}
+use Rattle.gj_layer.proofs.Members.There.{node_there}
 use Rattle.sheet_base.proofs.HandedOn.{passed_on}
-use Rattle.gj_layer.proofs.OpenValues.{path_read, takes_fault}
+use Rattle.gj_layer.proofs.OpenObjects.OpenValues.{path_read, takes_fault}
 use Rattle.gj_layer.proofs.layer_documents.read_item.Goals as goal
 
 pub open_object-requires-clause-paths : goal.open_object-requires-clause-paths

@@ -3,10 +3,10 @@ use Rattle.std.proofs.Common.{length, ◌∙◌, arith}
 use Rattle.jtext.specs.declared.document.Kind.TheVariants as kinds
 use Rattle.gj_layer.specs.declared.forms.ValueForm.TheVariants as forms
 use Rattle.gj_layer.specs.Paths.{nothing}
-use Rattle.gj_layer.proofs.There.{kind_there, kind_not_there}
+use Rattle.gj_layer.proofs.Members.There.{kind_there, kind_not_there}
 use Rattle.sheet_base.proofs.HandedOn.{passed_on}
-use Rattle.gj_layer.proofs.PathsSoFar.{held_nothing}
-use Rattle.gj_layer.proofs.OpenValues.{optional_read, null_read, takes_fault}
+use Rattle.gj_layer.proofs.Coordinates.PathsSoFar.{held_nothing}
+use Rattle.gj_layer.proofs.OpenObjects.OpenValues.{optional_read, null_read, takes_fault}
 use Rattle.gj_layer.proofs.layer_documents.read_optional.Goals as goal
 
 pub returns-then-is_kind-clause-takes : goal.returns-then-is_kind-clause-takes

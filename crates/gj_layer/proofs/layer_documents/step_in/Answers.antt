@@ -3,9 +3,9 @@ use Rattle.std.proofs.Common.{◌-◌, ◌∷◌, length, arith}
 use Rattle.gj_layer.specs.Documents.{reading}
 use Rattle.gj_layer.specs.InsideFrames.{left_in}
 use Rattle.sheet_base.proofs.HandedOn.{passed_on}
-use Rattle.gj_layer.proofs.OpenWalks.{next_there, room_less, room_grows, goes_fault, within_nodes, node_behind}
-use Rattle.gj_layer.proofs.OpenWalks.{taken_none, taken_some, grows_some, grows_none, within_some}
-use Rattle.jtext.proofs.NodePlaces.{node_count_positive}
+use Rattle.gj_layer.proofs.OpenObjects.OpenWalks.{next_there, room_less, room_grows, goes_fault, within_nodes, node_behind}
+use Rattle.gj_layer.proofs.OpenObjects.OpenWalks.{taken_none, taken_some, grows_some, grows_none, within_some}
+use Rattle.jtext.proofs.CallerLemmas.NodePlaces.{node_count_positive}
 use Rattle.gj_layer.proofs.layer_documents.step_in.Goals as goal
 
 pub node_at-node-requires : goal.node_at-node-requires

@@ -3,7 +3,7 @@ use Rattle.std.proofs.Common.{length, sym, ap, subst, arith}
 use Rattle.gj_layer.specs.Paths.{Part, joint_part}
 use Rattle.gj_layer.specs.InsideNodes.{Holds}
 use Rattle.gj_layer.specs.InsideFrames.{IsBare, part_with_own}
-use Rattle.gj_layer.proofs.OpenWalks.{end_there, ending_some, ending_none, edits_within}
+use Rattle.gj_layer.proofs.OpenObjects.OpenWalks.{end_there, ending_some, ending_none, edits_within}
 use Rattle.gj_layer.proofs.layer_documents.step_out.Goals as goal
 
 pub end_object-requires-clause-edits : goal.end_object-requires-clause-edits

@@ -1,6 +1,6 @@
 -- Answers to the goals of `find` in src/nodes.rt.
 use Rattle.std.specs.Prelude.{Ok, Err}
-use Rattle.gj_layer.proofs.MemberNames.{look_finds}
+use Rattle.gj_layer.proofs.Members.MemberNames.{look_finds}
 use Rattle.gj_layer.proofs.nodes.find.Goals as goal
 
 pub returns-in-Ok : goal.returns-in-Ok

@@ -1,5 +1,5 @@
 -- Answers to the goals of `content_at` in src/objects.rt.
-use Rattle.gj_layer.proofs.MemberFinds.{found_within, content_found}
+use Rattle.gj_layer.proofs.Members.MemberFinds.{found_within, content_found}
 use Rattle.std.proofs.Common.{arith}
 use Rattle.gj_layer.proofs.objects.content_at.Goals as goal
 

@@ -7,9 +7,9 @@ use Rattle.jtext.specs.declared.document.Node.{Node}
 use Rattle.sheet_base.specs.Faults.{and_then}
 use Rattle.gj_layer.specs.Members.{members_at, find_member}
 use Rattle.gj_layer.specs.Objects.{content_key, with_content, object_type}
-use Rattle.gj_layer.proofs.There.{kind_within, object_there, first_is}
+use Rattle.gj_layer.proofs.Members.There.{kind_within, object_there, first_is}
 use Rattle.sheet_base.proofs.HandedOn.{passed_on}
-use Rattle.gj_layer.proofs.ObjectTypes.{kept_type, type_so, looks_fault}
+use Rattle.gj_layer.proofs.Members.ObjectTypes.{kept_type, type_so, looks_fault}
 use Rattle.gj_layer.proofs.objects.look.Goals as goal
 
 pub type_in-requires-clause-told : goal.type_in-requires-clause-told

@@ -9,11 +9,11 @@ use Rattle.jtext.specs.declared.document.Node.{Node}
 use Rattle.sheet_base.specs.declared.faults.LayerFault.TheVariants.{Shape}
 use Rattle.gj_layer.specs.declared.forms.ValueForm.TheVariants as forms
 use Rattle.gj_layer.specs.Documents.{reading}
-use Rattle.gj_layer.proofs.There.{first_is, object_there, kind_there, kind_not_there}
-use Rattle.jtext.proofs.MemberLoops.{object_of}
+use Rattle.gj_layer.proofs.Members.There.{first_is, object_there, kind_there, kind_not_there}
+use Rattle.jtext.proofs.CallerLemmas.MemberLoops.{object_of}
 use Rattle.sheet_base.proofs.HandedOn.{passed_on}
-use Rattle.gj_layer.proofs.OpenValues.{no_object, object_refused, object_opens, opens_fault, opens_same, content_inside}
-use Rattle.gj_layer.proofs.OpenValues.{held_counts}
+use Rattle.gj_layer.proofs.OpenObjects.OpenValues.{no_object, object_refused, object_opens, opens_fault, opens_same, content_inside}
+use Rattle.gj_layer.proofs.OpenObjects.OpenValues.{held_counts}
 use Rattle.gj_layer.proofs.objects.open_object.Goals as goal
 
 pub returns-then-not-is_kind-clause-opens : goal.returns-then-not-is_kind-clause-opens

@@ -1,5 +1,5 @@
 -- Answers to the goals of `span_at` in src/objects.rt.
-use Rattle.gj_layer.proofs.MemberFinds.{found_within, span_found}
+use Rattle.gj_layer.proofs.Members.MemberFinds.{found_within, span_found}
 use Rattle.std.proofs.Common.{arith}
 use Rattle.gj_layer.proofs.objects.span_at.Goals as goal
 

@@ -1,6 +1,6 @@
 -- Answers to the goals of `tells` in src/objects.rt.
 use Rattle.jtext.specs.Values.{quoted}
-use Rattle.jtext.proofs.SameTexts.{says_quoted}
+use Rattle.jtext.proofs.CallerLemmas.SameTexts.{says_quoted}
 use Rattle.gj_layer.proofs.objects.tells.Goals as goal
 
 pub returns : goal.returns

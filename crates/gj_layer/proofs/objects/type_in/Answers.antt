@@ -4,8 +4,8 @@ use Rattle.std.specs.Prelude.{Err}
 use Rattle.jtext.specs.declared.document.Node.{Node}
 use Rattle.sheet_base.specs.declared.faults.LayerFault.TheVariants.{Shape}
 use Rattle.gj_layer.specs.Objects.{type_in}
-use Rattle.gj_layer.proofs.There.{first_is}
-use Rattle.gj_layer.proofs.MemberFinds.{found_within, value_found, none_found}
+use Rattle.gj_layer.proofs.Members.There.{first_is}
+use Rattle.gj_layer.proofs.Members.MemberFinds.{found_within, value_found, none_found}
 use Rattle.gj_layer.proofs.objects.type_in.Goals as goal
 
 pub type_of-requires-clause-value : goal.type_of-requires-clause-value

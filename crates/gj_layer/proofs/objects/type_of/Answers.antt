@@ -6,9 +6,9 @@ use Rattle.jtext.specs.declared.document.Kind.TheVariants as kinds
 use Rattle.jtext.specs.declared.document.Node.{Node}
 use Rattle.sheet_base.specs.declared.faults.LayerFault.TheVariants.{Shape}
 use Rattle.gj_layer.specs.Objects.{allowed_type, type_of}
-use Rattle.gj_layer.proofs.There.{first_is, kind_there, kind_not_there}
-use Rattle.jtext.proofs.TextNodes.{quoted_of}
-use Rattle.gj_layer.proofs.TextMeanings.{no_text}
+use Rattle.gj_layer.proofs.Members.There.{first_is, kind_there, kind_not_there}
+use Rattle.jtext.proofs.CallerLemmas.TextNodes.{quoted_of}
+use Rattle.gj_layer.proofs.Members.TextMeanings.{no_text}
 use Rattle.gj_layer.proofs.objects.type_of.Goals as goal
 
 pub returns-then-is_kind : goal.returns-then-is_kind

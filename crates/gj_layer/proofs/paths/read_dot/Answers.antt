@@ -1,8 +1,8 @@
 -- Answers to the goals of `read_dot` in src/paths.rt.
 use Rattle.std.proofs.Common.{◌≡◌, ◌∷◌, ◌++◌, [], length, vec_len, refl, ap, ◌∙◌, arith, length-append}
-use Rattle.gj_layer.proofs.There.{node_there, seen}
-use Rattle.gj_layer.proofs.PathsSoFar.{held_more, held_first}
-use Rattle.gj_layer.proofs.ReadPaths.{run_path, dot_traced}
+use Rattle.gj_layer.proofs.Members.There.{node_there, seen}
+use Rattle.gj_layer.proofs.Coordinates.PathsSoFar.{held_more, held_first}
+use Rattle.gj_layer.proofs.Coordinates.ReadPaths.{run_path, dot_traced}
 use Rattle.sheet_base.specs.declared.paths.PathKind.TheVariants.{Dot}
 use Rattle.gj_layer.specs.Positions.{position_of}
 use Rattle.gj_layer.specs.InsideNodes.{path_part}

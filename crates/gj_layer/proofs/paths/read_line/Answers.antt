@@ -10,11 +10,11 @@ use Rattle.sheet_base.specs.PointHeights.{Position, points_of}
 use Rattle.gj_layer.specs.Positions.{position_of}
 use Rattle.gj_layer.specs.Paths.{nothing, joint_part, paths_of_trace, part_of}
 use Rattle.gj_layer.specs.InsideNodes.{Holds, path_part}
-use Rattle.gj_layer.proofs.There.{array_here, array_seen}
+use Rattle.gj_layer.proofs.Members.There.{array_here, array_seen}
 use Rattle.sheet_base.proofs.HandedOn.{passed_on}
-use Rattle.gj_layer.proofs.AnswerLaws.{give_fault}
-use Rattle.gj_layer.proofs.PathsSoFar.{held_more, held_empty, held_first}
-use Rattle.gj_layer.proofs.ReadPaths.{run_path, line_refused, line_traced, line_empty, none_of}
+use Rattle.gj_layer.proofs.OpenObjects.AnswerLaws.{give_fault}
+use Rattle.gj_layer.proofs.Coordinates.PathsSoFar.{held_more, held_empty, held_first}
+use Rattle.gj_layer.proofs.Coordinates.ReadPaths.{run_path, line_refused, line_traced, line_empty, none_of}
 use Rattle.gj_layer.proofs.paths.read_line.Goals as goal
 
 pub read_positions-requires-clause-room : goal.read_positions-requires-clause-room

@@ -9,9 +9,9 @@ use Rattle.gj_layer.specs.declared.forms.Trace.TheVariants as traces
 use Rattle.sheet_base.specs.Faults.{and_then}
 use Rattle.gj_layer.specs.Paths.{nothing, paths_of_trace, part_of}
 use Rattle.gj_layer.specs.InsideNodes.{Joins}
-use Rattle.gj_layer.proofs.There.{seen, first_is, kind_there, kind_not_there}
-use Rattle.gj_layer.proofs.PathsSoFar.{held_nothing}
-use Rattle.gj_layer.proofs.ReadPaths.{not_traced, point_some, point_none}
+use Rattle.gj_layer.proofs.Members.There.{seen, first_is, kind_there, kind_not_there}
+use Rattle.gj_layer.proofs.Coordinates.PathsSoFar.{held_nothing}
+use Rattle.gj_layer.proofs.Coordinates.ReadPaths.{not_traced, point_some, point_none}
 use Rattle.gj_layer.proofs.paths.read_path.Goals as goal
 
 pub returns-then-not-is_kind-clause-path : goal.returns-then-not-is_kind-clause-path

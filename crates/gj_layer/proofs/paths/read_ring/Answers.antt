@@ -14,12 +14,12 @@ use Rattle.sheet_base.specs.declared.faults.LayerFault.TheVariants.{Ring as Ring
 use Rattle.jtext.specs.declared.document.Node.{Node}
 use Rattle.gj_layer.specs.Paths.{joint_part, is_ring, paths_of_trace, part_of}
 use Rattle.gj_layer.specs.InsideNodes.{Holds, path_part}
-use Rattle.gj_layer.proofs.There.{first_is, kind_within, array_here, array_seen}
+use Rattle.gj_layer.proofs.Members.There.{first_is, kind_within, array_here, array_seen}
 use Rattle.sheet_base.proofs.HandedOn.{passed_on}
-use Rattle.gj_layer.proofs.AnswerLaws.{give_fault}
-use Rattle.gj_layer.proofs.Fine.{ring_many}
-use Rattle.gj_layer.proofs.PathsSoFar.{held_more, held_first, held_even}
-use Rattle.gj_layer.proofs.ReadPaths.{run_path, ring_refused, ring_traced, ring_open, ring_is, last_split}
+use Rattle.gj_layer.proofs.OpenObjects.AnswerLaws.{give_fault}
+use Rattle.gj_layer.proofs.OpenObjects.Fine.{ring_many}
+use Rattle.gj_layer.proofs.Coordinates.PathsSoFar.{held_more, held_first, held_even}
+use Rattle.gj_layer.proofs.Coordinates.ReadPaths.{run_path, ring_refused, ring_traced, ring_open, ring_is, last_split}
 use Rattle.gj_layer.proofs.paths.read_ring.Goals as goal
 
 pub read_positions-requires-clause-room : goal.read_positions-requires-clause-room

@@ -7,8 +7,8 @@ use Rattle.jtext.specs.declared.document.Kind.TheVariants as kinds
 use Rattle.jtext.specs.declared.document.Node.{Node}
 use Rattle.sheet_base.specs.declared.faults.LayerFault.TheVariants.{Shape, Height}
 use Rattle.gj_layer.specs.Positions.{position_from}
-use Rattle.gj_layer.proofs.There.{seen, first_is, kind_within, array_left}
-use Rattle.gj_layer.proofs.PositionElements.{no_first, no_second, no_third, no_fourth, fourth_there}
+use Rattle.gj_layer.proofs.Members.There.{seen, first_is, kind_within, array_left}
+use Rattle.gj_layer.proofs.Coordinates.PositionElements.{no_first, no_second, no_third, no_fourth, fourth_there}
 use Rattle.gj_layer.proofs.positions.read_array.Goals as goal
 
 pub overflow_add-first : goal.overflow_add-first

@@ -6,8 +6,8 @@ use Rattle.jtext.specs.declared.document.Node.{Node}
 use Rattle.sheet_base.specs.declared.faults.LayerFault.TheVariants.{Shape}
 use Rattle.mm_decimal.specs.AnswerValues.{millimetres_of}
 use Rattle.gj_layer.specs.Positions.{accepted_read}
-use Rattle.gj_layer.proofs.There.{seen, first_is, text_is, kind_there, kind_not_there}
-use Rattle.gj_layer.proofs.PositionElements.{number_so, no_number}
+use Rattle.gj_layer.proofs.Members.There.{seen, first_is, text_is, kind_there, kind_not_there}
+use Rattle.gj_layer.proofs.Coordinates.PositionElements.{number_so, no_number}
 use Rattle.gj_layer.proofs.positions.read_number.Goals as goal
 
 pub text_of-requires-clause-order : goal.text_of-requires-clause-order

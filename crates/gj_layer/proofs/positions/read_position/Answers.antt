@@ -6,8 +6,8 @@ use Rattle.jtext.specs.declared.document.Kind.TheVariants as kinds
 use Rattle.jtext.specs.declared.document.Node.{Node}
 use Rattle.sheet_base.specs.declared.faults.LayerFault.TheVariants.{Shape}
 use Rattle.gj_layer.specs.Positions.{position}
-use Rattle.gj_layer.proofs.There.{first_is, array_of, kind_there, kind_not_there}
-use Rattle.gj_layer.proofs.PositionElements.{no_position}
+use Rattle.gj_layer.proofs.Members.There.{first_is, array_of, kind_there, kind_not_there}
+use Rattle.gj_layer.proofs.Coordinates.PositionElements.{no_position}
 use Rattle.gj_layer.proofs.positions.read_position.Goals as goal
 
 pub read_array-requires-clause-kind : goal.read_array-requires-clause-kind

@@ -6,10 +6,10 @@ use Rattle.jtext.specs.Nodes.{inner_place}
 use Rattle.jtext.specs.declared.document.Kind.TheVariants as kinds
 use Rattle.gj_layer.specs.Positions.{positions}
 use Rattle.gj_layer.specs.InsideNodes.{IsRun}
-use Rattle.gj_layer.proofs.There.{seen, kind_within, array_left, array_there}
+use Rattle.gj_layer.proofs.Members.There.{seen, kind_within, array_left, array_there}
 use Rattle.sheet_base.proofs.HandedOn.{passed_on}
-use Rattle.gj_layer.proofs.AnswerLaws.{give_fault}
-use Rattle.gj_layer.proofs.Runs.{walk_begins, next_is, walk_within, walk_ends}
+use Rattle.gj_layer.proofs.OpenObjects.AnswerLaws.{give_fault}
+use Rattle.gj_layer.proofs.Coordinates.Runs.{walk_begins, next_is, walk_within, walk_ends}
 use Rattle.gj_layer.proofs.positions.read_positions.Goals as goal
 
 pub overflow_add-at : goal.overflow_add-at

@@ -4,7 +4,7 @@ use Rattle.jtext.specs.Values.{Elements, array}
 use Rattle.jtext.specs.Nodes.{inner_place}
 use Rattle.jtext.specs.Places.{HasNodesAt}
 use Rattle.gj_layer.specs.Positions.{positions}
-use Rattle.gj_layer.proofs.Runs.{IsWalked}
+use Rattle.gj_layer.proofs.Coordinates.Runs.{IsWalked}
 use Rattle.gj_layer.proofs.positions.read_positions.Given as goal
 
 abbrev pub invariant-loop-at : goal.invariant-loop-at

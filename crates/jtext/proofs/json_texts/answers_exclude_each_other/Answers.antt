@@ -1,5 +1,5 @@
 -- The proof of the law `answers_exclude_each_other` in src/json_texts.rt.
-use Rattle.jtext.proofs.Exclusion.{bad_once, deep_once, bad_or_deep}
+use Rattle.jtext.proofs.CallerLemmas.Exclusion.{bad_once, deep_once, bad_or_deep}
 use Rattle.jtext.proofs.json_texts.answers_exclude_each_other.Goals as goal
 
 pub returns-clause-bad_once : goal.returns-clause-bad_once

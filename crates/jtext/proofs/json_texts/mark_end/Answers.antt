@@ -1,6 +1,6 @@
 -- Answers to the goals of `mark_end` in src/json_texts.rt.
 use Rattle.std.proofs.Common.{arith}
-use Rattle.jtext.proofs.Reaches.{start_reached, mark_reached, mark_bad}
+use Rattle.jtext.proofs.CodeReads.Reaches.{start_reached, mark_reached, mark_bad}
 use Rattle.jtext.proofs.json_texts.mark_end.Goals as goal
 
 pub returns-then-bytes-eq0 : goal.returns-then-bytes-eq0

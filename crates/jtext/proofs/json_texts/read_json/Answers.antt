@@ -1,7 +1,7 @@
 -- Answers to the goals of `read_json` in src/json_texts.rt.
 use Rattle.std.proofs.Common.{◌≡◌, ◌∙◌, sym, subst, true, false}
 use Rattle.jtext.specs.Texts.{IsBad}
-use Rattle.jtext.proofs.Reaches.{end_read, end_bad}
+use Rattle.jtext.proofs.CodeReads.Reaches.{end_read, end_bad}
 use Rattle.jtext.proofs.json_texts.read_json.Goals as goal
 
 pub returns-then-is_end-clause-ok : goal.returns-then-is_end-clause-ok

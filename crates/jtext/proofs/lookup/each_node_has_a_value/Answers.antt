@@ -1,6 +1,6 @@
 -- The proof of the law `each_node_has_a_value` in src/lookup.rt.
-use Rattle.jtext.proofs.NodePlaces.{node_stands}
-use Rattle.jtext.proofs.MemberLoops.{object_there}
+use Rattle.jtext.proofs.CallerLemmas.NodePlaces.{node_stands}
+use Rattle.jtext.proofs.CallerLemmas.MemberLoops.{object_there}
 use Rattle.jtext.proofs.lookup.each_node_has_a_value.Goals as goal
 
 pub returns-clause-value : goal.returns-clause-value

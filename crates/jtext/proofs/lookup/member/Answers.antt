@@ -5,8 +5,8 @@ use Rattle.jtext.specs.Values.{Json}
 use Rattle.jtext.specs.Nodes.{node_count, inner_place}
 use Rattle.jtext.specs.Places.{entries_at}
 use Rattle.jtext.specs.Characters.{units_of}
-use Rattle.jtext.proofs.MemberLoops.{object_there, object_next, going_in, some_next, next_member, next_bounds}
-use Rattle.jtext.proofs.MemberLoops.{next_number, key_place, second_found, going_first, going_other}
+use Rattle.jtext.proofs.CallerLemmas.MemberLoops.{object_there, object_next, going_in, some_next, next_member, next_bounds}
+use Rattle.jtext.proofs.CallerLemmas.MemberLoops.{next_number, key_place, second_found, going_first, going_other}
 use Rattle.jtext.proofs.lookup.member.Goals.{then-same_text+in-None, else-same_text}
 use Rattle.jtext.proofs.lookup.member.Goals as goal
 

@@ -3,7 +3,7 @@ use Rattle.std.proofs.Common.{◌≡◌, ℕ, ◌+◌, ◌-◌, List}
 use Rattle.jtext.specs.Values.{Json, Members}
 use Rattle.jtext.specs.Nodes.{inner_place}
 use Rattle.jtext.specs.Places.{HasNodesAt, entries_at}
-use Rattle.jtext.proofs.MemberLoops.{Going}
+use Rattle.jtext.proofs.CallerLemmas.MemberLoops.{Going}
 use Rattle.jtext.proofs.lookup.member.Given as goal
 
 abbrev pub invariant-loop-at : goal.invariant-loop-at

@@ -2,7 +2,7 @@
 use Rattle.std.proofs.Common.{◌≡◌, ◌+◌, ◌-◌, ◌∙◌, get_or}
 use Rattle.std.specs.Prelude.{slice_range}
 use Rattle.jtext.specs.declared.document.Kind.TheVariants.{Text}
-use Rattle.jtext.proofs.TextNodes.{marks_there, says_value, no_node}
+use Rattle.jtext.proofs.CallerLemmas.TextNodes.{marks_there, says_value, no_node}
 use Rattle.jtext.proofs.lookup.same_text.Goals as goal
 
 pub between_marks-requires-clause-marks : goal.between_marks-requires-clause-marks

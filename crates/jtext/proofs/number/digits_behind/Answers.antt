@@ -1,6 +1,6 @@
 -- Answers to the goals of `digits_behind` in src/number.rt.
 use Rattle.std.specs.Prelude.{slice_range}
-use Rattle.jtext.proofs.NumberTexts.{digits_read}
+use Rattle.jtext.proofs.Grammar.NumberTexts.{digits_read}
 use Rattle.jtext.proofs.number.digits_behind.Goals as goal
 
 pub returns-then-is_in_digits-clause-passes : goal.returns-then-is_in_digits-clause-passes

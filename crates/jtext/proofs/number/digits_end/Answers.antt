@@ -1,7 +1,7 @@
 -- Answers to the goals of `digits_end` in src/number.rt.
 use Rattle.std.proofs.Common.{arith}
 use Rattle.jtext.specs.Numbers.{IsDigit}
-use Rattle.jtext.proofs.Pieces.{all_more}
+use Rattle.jtext.proofs.CodeReads.Pieces.{all_more}
 use Rattle.jtext.proofs.number.digits_end.Goals as goal
 
 pub loop-at-preserved : goal.loop-at-preserved

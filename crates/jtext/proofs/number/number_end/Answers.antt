@@ -1,7 +1,7 @@
 -- Answers to the goals of `number_end` in src/number.rt.
 use Rattle.std.proofs.Common.{◌+◌, ◌∙◌, sym, arith}
 use Rattle.jtext.specs.InsideTokens.{number_step}
-use Rattle.jtext.proofs.Pieces.{passes_more, passes_on}
+use Rattle.jtext.proofs.CodeReads.Pieces.{passes_more, passes_on}
 use Rattle.jtext.proofs.number.number_end.Goals as goal
 
 pub loop-at-preserved : goal.loop-at-preserved

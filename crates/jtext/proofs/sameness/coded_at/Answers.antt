@@ -1,6 +1,6 @@
 -- Answers to the goals of `coded_at` in src/sameness.rt.
 use Rattle.std.proofs.Common.{arith}
-use Rattle.jtext.proofs.UnitLaws.{coded_long, coded_value}
+use Rattle.jtext.proofs.CodeReads.UnitLaws.{coded_long, coded_value}
 use Rattle.jtext.proofs.sameness.coded_at.Goals as goal
 
 pub returns-then-raw-at-lt4-clause-unit : goal.returns-then-raw-at-lt4-clause-unit

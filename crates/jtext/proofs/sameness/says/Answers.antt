@@ -2,7 +2,7 @@
 use Rattle.std.proofs.Common.{◌≡◌, ◌∙◌, sym, arith, length}
 use Rattle.std.proofs.lemmas.Bool.{eqb-true, eq-eqb}
 use Rattle.jtext.specs.Characters.{units_of}
-use Rattle.jtext.proofs.CharacterSteps.{outside_differs, unit_differs, unit_left, all_said, never_so}
+use Rattle.jtext.proofs.CodeReads.CharacterSteps.{outside_differs, unit_differs, unit_left, all_said, never_so}
 use Rattle.jtext.proofs.sameness.says.Goals as goal
 
 pub returns-in_default : goal.returns-in_default

@@ -1,7 +1,7 @@
 -- Answers to the goals of `unit_at` in src/sameness.rt.
 use Rattle.std.proofs.Common.{◌+◌, ◌∙◌, sym, arith, drop, get_or}
 use Rattle.std.proofs.lemmas.List.{drop_more}
-use Rattle.jtext.proofs.UnitLaws.{wide_unit}
+use Rattle.jtext.proofs.CodeReads.UnitLaws.{wide_unit}
 use Rattle.jtext.proofs.sameness.unit_at.Goals as goal
 
 pub returns-then-raw-at-ge128-clause-unit : goal.returns-then-raw-at-ge128-clause-unit

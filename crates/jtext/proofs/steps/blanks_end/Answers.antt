@@ -1,7 +1,7 @@
 -- Answers to the goals of `blanks_end` in src/steps.rt.
 use Rattle.std.proofs.Common.{arith}
 use Rattle.jtext.specs.Values.{IsBlank}
-use Rattle.jtext.proofs.Pieces.{all_more}
+use Rattle.jtext.proofs.CodeReads.Pieces.{all_more}
 use Rattle.jtext.proofs.steps.blanks_end.Goals as goal
 
 pub loop-at-preserved : goal.loop-at-preserved

@@ -1,6 +1,6 @@
 -- Answers to the goals of `close_one` in src/steps.rt.
 use Rattle.std.proofs.Common.{◌≡◌, ◌∙◌, sym, arith, length, vec_len}
-use Rattle.jtext.proofs.Reaches.{close_none, close_other, close_reached}
+use Rattle.jtext.proofs.CodeReads.Reaches.{close_none, close_other, close_reached}
 use Rattle.jtext.proofs.steps.close_one.Goals as goal
 
 pub returns-in_default : goal.returns-in_default

@@ -1,6 +1,6 @@
 -- Answers to the goals of `open_one` in src/steps.rt.
 use Rattle.std.proofs.Common.{◌≡◌, arith, length, vec_len}
-use Rattle.jtext.proofs.Reaches.{open_deep, open_reached}
+use Rattle.jtext.proofs.CodeReads.Reaches.{open_deep, open_reached}
 use Rattle.jtext.proofs.steps.open_one.Goals as goal
 
 pub returns-then-len-ge-DEEPEST : goal.returns-then-len-ge-DEEPEST

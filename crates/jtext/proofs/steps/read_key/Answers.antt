@@ -2,7 +2,7 @@
 use Rattle.std.proofs.Common.{arith}
 use Rattle.jtext.specs.InsideStates.{Role}
 use Rattle.jtext.specs.declared.document.Kind.TheVariants.{Text}
-use Rattle.jtext.proofs.Reaches.{quoted_key_reached, text_bad}
+use Rattle.jtext.proofs.CodeReads.Reaches.{quoted_key_reached, text_bad}
 use Rattle.jtext.proofs.steps.read_key.Goals as goal
 
 pub returns-in_ok-add_node-in-Ok : goal.returns-in_ok-add_node-in-Ok

@@ -1,7 +1,7 @@
 -- Answers to the goals of `read_number` in src/steps.rt.
 use Rattle.std.proofs.Common.{◌∙◌, sym, arith}
 use Rattle.jtext.specs.declared.document.Kind.TheVariants.{Number}
-use Rattle.jtext.proofs.Reaches.{number_reached, number_bad}
+use Rattle.jtext.proofs.CodeReads.Reaches.{number_reached, number_bad}
 use Rattle.jtext.proofs.steps.read_number.Goals as goal
 
 pub returns-then-not-is_last : goal.returns-then-not-is_last

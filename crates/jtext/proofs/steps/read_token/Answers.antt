@@ -2,7 +2,7 @@
 use Rattle.std.proofs.Common.{refl, arith}
 use Rattle.jtext.specs.InsideStates.{stand_step, anywhere}
 use Rattle.jtext.specs.declared.steps.Expectation.TheVariants as places
-use Rattle.jtext.proofs.Reaches.{takes_bad, takes_stand, first_key_none, key_none, colon_none, behind_none}
+use Rattle.jtext.proofs.CodeReads.Reaches.{takes_bad, takes_stand, first_key_none, key_none, colon_none, behind_none}
 use Rattle.jtext.proofs.steps.read_token.Goals as goal
 
 pub returns-in_default-sign : goal.returns-in_default-sign

@@ -1,6 +1,6 @@
 -- Answers to the goals of `read_value` in src/steps.rt.
 use Rattle.jtext.specs.InsideStates.{value_step, anywhere}
-use Rattle.jtext.proofs.Reaches.{takes_bad, value_none}
+use Rattle.jtext.proofs.CodeReads.Reaches.{takes_bad, value_none}
 use Rattle.jtext.proofs.steps.read_value.Goals as goal
 
 pub returns-in_default : goal.returns-in_default

@@ -4,7 +4,7 @@ use Rattle.std.specs.Prelude.{Ok, Err}
 use Rattle.jtext.specs.InsideSigns.{word_kind, word_rest}
 use Rattle.jtext.specs.InsideTokens.{WordEnds}
 use Rattle.jtext.specs.InsideStates.{Role}
-use Rattle.jtext.proofs.Reaches.{word_reached, word_bad}
+use Rattle.jtext.proofs.CodeReads.Reaches.{word_reached, word_bad}
 use Rattle.jtext.proofs.steps.read_word.Goals as goal
 
 pub returns-in_ok-add_node-in-Ok : goal.returns-in_ok-add_node-in-Ok

@@ -1,6 +1,6 @@
 -- Answers to the goals of `separate` in src/steps.rt.
 use Rattle.std.proofs.Common.{arith}
-use Rattle.jtext.proofs.Reaches.{separate_reached, separate_none}
+use Rattle.jtext.proofs.CodeReads.Reaches.{separate_reached, separate_none}
 use Rattle.jtext.proofs.steps.separate.Goals as goal
 
 pub returns-in-Some : goal.returns-in-Some

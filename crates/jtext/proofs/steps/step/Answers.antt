@@ -1,7 +1,7 @@
 -- Answers to the goals of `step` in src/steps.rt.
 use Rattle.std.proofs.Common.{◌∙◌, sym, arith}
 use Rattle.jtext.specs.InsideStates.{Takes, blank_step}
-use Rattle.jtext.proofs.Reaches.{reached_takes, takes_so, takes_blanks, blank_stands}
+use Rattle.jtext.proofs.CodeReads.Reaches.{reached_takes, takes_so, takes_blanks, blank_stands}
 use Rattle.jtext.proofs.steps.step.Goals as goal
 
 pub returns-in-Blank : goal.returns-in-Blank

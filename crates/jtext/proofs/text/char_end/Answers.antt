@@ -1,7 +1,7 @@
 -- Answers to the goals of `char_end` in src/text.rt.
 use Rattle.std.proofs.Common.{◌+◌, ◌∙◌, ap, sym}
 use Rattle.jtext.specs.InsideTokens.{Inner, after_text_sign, needing, lead_needs}
-use Rattle.jtext.proofs.Tokens.{goes_one, ends_on}
+use Rattle.jtext.proofs.CodeReads.Tokens.{goes_one, ends_on}
 use Rattle.jtext.proofs.text.char_end.Goals as goal
 
 pub returns-in-Backslash-clause-ends : goal.returns-in-Backslash-clause-ends

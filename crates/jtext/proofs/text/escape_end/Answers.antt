@@ -1,7 +1,7 @@
 -- Answers to the goals of `escape_end` in src/text.rt.
 use Rattle.std.proofs.Common.{◌+◌, ◌∙◌, ap, sym}
 use Rattle.jtext.specs.InsideTokens.{Inner, after_escape_sign, needing, hexadecimal_needs}
-use Rattle.jtext.proofs.Tokens.{goes_one, ends_on}
+use Rattle.jtext.proofs.CodeReads.Tokens.{goes_one, ends_on}
 use Rattle.jtext.proofs.text.escape_end.Goals as goal
 
 pub returns-in-Unicode : goal.returns-in-Unicode

@@ -2,8 +2,8 @@
 use Rattle.std.proofs.Common.{◌+◌, ◌∙◌, sym, arith, drop, get_or}
 use Rattle.jtext.specs.InsideTokens.{inner_step, needing}
 use Rattle.jtext.specs.declared.text.Need.TheVariants.{Tail}
-use Rattle.jtext.proofs.Pieces.{passes_more}
-use Rattle.jtext.proofs.Tokens.{need_goes}
+use Rattle.jtext.proofs.CodeReads.Pieces.{passes_more}
+use Rattle.jtext.proofs.CodeReads.Tokens.{need_goes}
 use Rattle.jtext.proofs.text.needs_end.Goals as goal
 
 pub loop-need-preserved : goal.loop-need-preserved

@@ -1,7 +1,7 @@
 -- Answers to the goals of `plain_end` in src/text.rt.
 use Rattle.std.proofs.Common.{◌∙◌, ap, sym, arith}
 use Rattle.jtext.specs.InsideTokens.{Inner, inner_step, after_text_sign}
-use Rattle.jtext.proofs.Pieces.{passes_more}
+use Rattle.jtext.proofs.CodeReads.Pieces.{passes_more}
 use Rattle.jtext.proofs.text.plain_end.Goals as goal
 
 pub loop-at-preserved : goal.loop-at-preserved

@@ -2,8 +2,8 @@
 use Rattle.std.proofs.Common.{◌∙◌, ap, sym, arith}
 use Rattle.std.specs.Prelude.{Ok, Err}
 use Rattle.jtext.specs.InsideTokens.{Inner, inner_step, after_text_sign, GoesOn}
-use Rattle.jtext.proofs.Pieces.{passes_more, passes_on}
-use Rattle.jtext.proofs.Tokens.{ends_on}
+use Rattle.jtext.proofs.CodeReads.Pieces.{passes_more, passes_on}
+use Rattle.jtext.proofs.CodeReads.Tokens.{ends_on}
 use Rattle.jtext.proofs.text.text_end.Goals as goal
 
 pub returns-then-is_quote : goal.returns-then-is_quote

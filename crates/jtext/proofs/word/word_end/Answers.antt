@@ -1,8 +1,8 @@
 -- Answers to the goals of `word_end` in src/word.rt.
 use Rattle.std.proofs.Common.{◌+◌, arith, drop, get_or}
 use Rattle.jtext.specs.InsideTokens.{word_step}
-use Rattle.jtext.proofs.Pieces.{passes_more}
-use Rattle.jtext.proofs.Tokens.{word_goes, word_stops, word_open}
+use Rattle.jtext.proofs.CodeReads.Pieces.{passes_more}
+use Rattle.jtext.proofs.CodeReads.Tokens.{word_goes, word_stops, word_open}
 use Rattle.jtext.proofs.word.word_end.Goals as goal
 
 pub returns-then-at-bytes : goal.returns-then-at-bytes

@@ -1,7 +1,7 @@
 -- Answers to the goals of `features_of` in src/documents.rt.
 use Rattle.std.proofs.Common.{◌≡◌, ℕ, List, [], ◌∷◌, ◌++◌, codes, IfOk, sym, ap, ◌∙◌, subst}
 use Rattle.jtext.specs.Places.{whole_start}
-use Rattle.jtext.proofs.NodePlaces.{reading_stands}
+use Rattle.jtext.proofs.CallerLemmas.NodePlaces.{reading_stands}
 use Rattle.layer_features.specs.declared.features.Feature.{Feature}
 use Rattle.layer_features.specs.JsonFeatures.{asked_for, member_of, array_features}
 use Rattle.layer_features.proofs.Found.{root_there, some_found, none_found}

@@ -1,5 +1,5 @@
 -- Answers to the goals of `outcome_exists` in src/laws.rt.
-use Rattle.place_runs.proofs.SomeOutcome.{outcome_exists}
+use Rattle.place_runs.proofs.Outcomes.SomeOutcome.{outcome_exists}
 use Rattle.place_runs.proofs.laws.outcome_exists.Goals as goal
 
 pub returns : goal.returns

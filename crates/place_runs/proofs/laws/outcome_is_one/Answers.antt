@@ -1,5 +1,5 @@
 -- Answers to the goals of `outcome_is_one` in src/laws.rt.
-use Rattle.place_runs.proofs.OneOutcome.{outcome_is_one}
+use Rattle.place_runs.proofs.Outcomes.OneOutcome.{outcome_is_one}
 use Rattle.place_runs.proofs.laws.outcome_is_one.Goals as goal
 
 pub returns : goal.returns

@@ -1,5 +1,5 @@
 -- The proof of the law `places_are_known` in src/laws.rt.
-use Rattle.place_runs.proofs.KnownRings.{all_known}
+use Rattle.place_runs.proofs.LayerPaths.KnownRings.{all_known}
 use Rattle.place_runs.proofs.laws.places_are_known.Goals as goal
 
 pub returns : goal.returns

@@ -2,8 +2,8 @@
 use Rattle.std.proofs.Common.{length, refl}
 use Rattle.runs.proofs.PassedRefusals.{handed_on}
 use Rattle.layer_features.specs.JsonFeatures.{asked_for}
-use Rattle.migrate.proofs.MigrationSteps.{stops_uncarried}
-use Rattle.place_runs.proofs.LayerPlaces.{more_places, count_more, adds_none}
+use Rattle.migrate_mode.proofs.MigrationSteps.{stops_uncarried}
+use Rattle.place_runs.proofs.LayerPaths.LayerPlaces.{more_places, count_more, adds_none}
 use Rattle.place_runs.proofs.layers.carry_layers.Goals as goal
 
 pub loop-number-init : goal.loop-number-init

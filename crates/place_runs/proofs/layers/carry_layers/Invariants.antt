@@ -1,6 +1,6 @@
 -- The invariants of `carry_layers` in src/layers.rt.
 use Rattle.std.proofs.Common.{◌≡◌, false, take, length}
-use Rattle.migrate.specs.PartialRuns.{shelf_state, run_start, IsRunAfter}
+use Rattle.migrate_mode.specs.PartialRuns.{shelf_state, run_start, IsRunAfter}
 use Rattle.layer_features.specs.JsonFeatures.{asked_for}
 use Rattle.change_places.specs.Words.{layer_words}
 use Rattle.place_runs.specs.Places.{HaveAllPlaces}

@@ -1,7 +1,7 @@
 -- Answers to the goals of `feature_spots` in src/layers.rt.
 use Rattle.std.proofs.Common.{◌∙◌, ap}
 use Rattle.place_runs.specs.InsideLayers.{spot_in}
-use Rattle.place_runs.proofs.PathSpots.{one_more_spot}
+use Rattle.place_runs.proofs.LayerPaths.PathSpots.{one_more_spot}
 use Rattle.place_runs.proofs.layers.feature_spots.Goals as goal
 
 pub loop-at-preserved : goal.loop-at-preserved

@@ -1,7 +1,7 @@
 -- Answers to the goals of `line_spots` in src/layers.rt.
 use Rattle.std.proofs.Common.{◌∙◌, ap}
 use Rattle.place_runs.specs.InsideLayers.{line_spot}
-use Rattle.place_runs.proofs.PathSpots.{one_more_line}
+use Rattle.place_runs.proofs.LayerPaths.PathSpots.{one_more_line}
 use Rattle.place_runs.proofs.layers.line_spots.Goals as goal
 
 pub loop-number-preserved : goal.loop-number-preserved

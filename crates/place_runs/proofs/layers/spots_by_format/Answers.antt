@@ -1,7 +1,7 @@
 -- Answers to the goals of `spots_by_format` in src/layers.rt.
 use Rattle.runs.proofs.PassedRefusals.{handed_on}
 use Rattle.layer_features.specs.JsonFeatures.{asked_for}
-use Rattle.place_runs.proofs.LayerPlaces.{spots_are}
+use Rattle.place_runs.proofs.LayerPaths.LayerPlaces.{spots_are}
 use Rattle.place_runs.proofs.layers.spots_by_format.Goals as goal
 
 pub returns-in_err-begun-clause-refused : goal.returns-in_err-begun-clause-refused

@@ -1,6 +1,6 @@
 -- Answers to the goals of `say_map` in src/output.rt.
 use Rattle.std.proofs.Common.{inl, inr, refl}
-use Rattle.place_runs.proofs.HeldBytes.{whole_said, front_said}
+use Rattle.place_runs.proofs.PrintedMaps.HeldBytes.{whole_said, front_said}
 use Rattle.place_runs.proofs.output.say_map.Goals as goal
 
 pub returns-in-Ok-clause-written : goal.returns-in-Ok-clause-written

@@ -1,5 +1,5 @@
 -- Answers to the goals of `first_at` in src/pieces.rt.
-use Rattle.place_runs.proofs.ChangePieces.{left_behind}
+use Rattle.place_runs.proofs.PrintedMaps.ChangePieces.{left_behind}
 use Rattle.place_runs.proofs.pieces.first_at.Goals as goal
 
 pub loop-piece-preserved : goal.loop-piece-preserved

@@ -2,7 +2,7 @@
 use Rattle.std.proofs.Common.{rules, sym, ◌∙◌}
 use Rattle.std.proofs.lemmas.Fn.{filter_same}
 use Rattle.place_runs.specs.InsidePieces.{is_printed}
-use Rattle.place_runs.proofs.ChangePieces.{printed_are}
+use Rattle.place_runs.proofs.PrintedMaps.ChangePieces.{printed_are}
 use Rattle.place_runs.proofs.pieces.keep_printed.Goals as goal
 
 pub returns : goal.returns

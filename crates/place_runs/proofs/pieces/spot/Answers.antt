@@ -1,5 +1,5 @@
 -- Answers to the goals of `spot` in src/pieces.rt.
-use Rattle.place_runs.proofs.ChangePieces.{spot_in_words}
+use Rattle.place_runs.proofs.PrintedMaps.ChangePieces.{spot_in_words}
 use Rattle.place_runs.proofs.pieces.spot.Goals as goal
 
 pub returns-clause-spot : goal.returns-clause-spot

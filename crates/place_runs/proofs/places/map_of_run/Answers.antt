@@ -3,12 +3,12 @@ use Rattle.std.proofs.Common.{rules, List, refl, sym, subst}
 use Rattle.tin_base.specs.declared.pieces.Piece.{Piece}
 use Rattle.topo_check.specs.Changes.{AreAllComparable}
 use Rattle.runs.proofs.PassedRefusals.{handed_on}
-use Rattle.migrate.specs.RunChanges.{AreListed}
-use Rattle.migrate.specs.RunContents.{by_sides}
+use Rattle.migrate_mode.specs.RunChanges.{AreListed}
+use Rattle.migrate_mode.specs.RunContents.{by_sides}
 use Rattle.place_runs.specs.declared.change_maps.ChangeMap.{ChangeMap}
 use Rattle.place_runs.specs.InsideMaps.{words_on, rings_on}
 use Rattle.place_runs.specs.InsideSides.{AreSomeRingsOf}
-use Rattle.place_runs.proofs.MapTexts.{printed_map}
+use Rattle.place_runs.proofs.PrintedMaps.MapTexts.{printed_map}
 use Rattle.place_runs.proofs.places.map_of_run.Goals as goal
 
 pub list_changes-requires-clause-comparable : goal.list_changes-requires-clause-comparable

@@ -1,9 +1,9 @@
 -- Answers to the goals of `places_of_run` in src/places.rt.
 use Rattle.std.proofs.Common.{◌<◌, ◌^◌, length, vec_capacity, rules}
 use Rattle.place_runs.specs.InsideMaps.{HasSides}
-use Rattle.place_runs.proofs.ChangePieces.{all_near}
-use Rattle.place_runs.proofs.MapParts.{has_text}
-use Rattle.place_runs.proofs.MapTexts.{sides_of_map, json_of_map}
+use Rattle.place_runs.proofs.PrintedMaps.ChangePieces.{all_near}
+use Rattle.place_runs.proofs.PrintedMaps.MapParts.{has_text}
+use Rattle.place_runs.proofs.PrintedMaps.MapTexts.{sides_of_map, json_of_map}
 use Rattle.place_runs.proofs.places.places_of_run.Goals as goal
 
 pub room_for-requires : goal.room_for-requires

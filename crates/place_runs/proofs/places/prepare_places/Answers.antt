@@ -5,15 +5,15 @@ use Rattle.tin_base.specs.Triangulation.{Triangulation}
 use Rattle.topo_check.specs.Changes.{AreAllComparable}
 use Rattle.runs.proofs.BytesPassed.{passed_since}
 use Rattle.runs.proofs.PassedRefusals.{handed_on, refused_more, done_more}
-use Rattle.migrate.proofs.MigrationSteps.{tin_refused, layers_refused, report_refused, run_comparable}
-use Rattle.migrate.proofs.LayerCauses.{layers_causes, report_causes}
-use Rattle.migrate.proofs.RunSheets.{may_be_sided}
-use Rattle.migrate.specs.LayerRuns.{setting_of}
-use Rattle.place_runs.proofs.PieceOrder.{one_piece}
-use Rattle.place_runs.proofs.LayerPlaces.{places_done, rows_done, refused_told}
+use Rattle.migrate_mode.proofs.MigrationSteps.{tin_refused, layers_refused, report_refused, run_comparable}
+use Rattle.migrate_mode.proofs.LayerCauses.{layers_causes, report_causes}
+use Rattle.migrate_mode.proofs.RunSheets.{may_be_sided}
+use Rattle.migrate_mode.specs.LayerRuns.{setting_of}
+use Rattle.place_runs.proofs.Outcomes.PieceOrder.{one_piece}
+use Rattle.place_runs.proofs.LayerPaths.LayerPlaces.{places_done, rows_done, refused_told}
 use Rattle.change_places.specs.Words.{layer_words}
-use Rattle.place_runs.proofs.PathWords.{all_words_copied}
-use Rattle.place_runs.proofs.PrintedNames.{printable_names}
+use Rattle.place_runs.proofs.LayerPaths.PathWords.{all_words_copied}
+use Rattle.place_runs.proofs.PrintedMaps.PrintedNames.{printable_names}
 use Rattle.place_runs.proofs.places.prepare_places.Goals as goal
 
 pub returns-in_err-index-clause-refused : goal.returns-in_err-index-clause-refused

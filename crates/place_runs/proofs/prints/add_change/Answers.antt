@@ -3,7 +3,7 @@ use Rattle.std.proofs.Common.{◌∙◌, ◌++◌, ap, arith}
 use Rattle.change_places.specs.Words.{ChangeText, change_words}
 use Rattle.change_places.specs.PlacesText.{change_entry}
 use Rattle.place_runs.specs.InsideMaps.{words_on}
-use Rattle.place_runs.proofs.OneSpot.{spot_one}
+use Rattle.place_runs.proofs.Outcomes.OneSpot.{spot_one}
 use Rattle.place_runs.proofs.prints.add_change.Goals as goal
 
 pub unreachable-requires : goal.unreachable-requires

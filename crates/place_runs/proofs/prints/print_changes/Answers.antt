@@ -1,8 +1,8 @@
 -- Answers to the goals of `print_changes` in src/prints.rt.
 use Rattle.std.proofs.Common.{refl, ◌∙◌, arith}
 use Rattle.shelf_io.proofs.Made.{on_err_always}
-use Rattle.place_runs.proofs.MapParts.{change_room}
-use Rattle.place_runs.proofs.MapPrints.{moves_begun, changes_front, changes_more, changes_all}
+use Rattle.place_runs.proofs.PrintedMaps.MapParts.{change_room}
+use Rattle.place_runs.proofs.PrintedMaps.MapPrints.{moves_begun, changes_front, changes_more, changes_all}
 use Rattle.place_runs.proofs.prints.print_changes.Goals as goal
 
 pub loop-number-init : goal.loop-number-init

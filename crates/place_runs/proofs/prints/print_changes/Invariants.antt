@@ -1,6 +1,6 @@
 -- The invariant of the loop of `print_changes` in src/prints.rt.
 use Rattle.std.proofs.Common.{◌≡◌, ◌≤◌, IsTrue, vec_capacity}
-use Rattle.place_runs.proofs.MapPrints.{HasChanges}
+use Rattle.place_runs.proofs.PrintedMaps.MapPrints.{HasChanges}
 use Rattle.place_runs.proofs.prints.print_changes.Given as goal
 
 abbrev pub invariant-loop-number : goal.invariant-loop-number

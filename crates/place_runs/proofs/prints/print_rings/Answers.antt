@@ -1,8 +1,8 @@
 -- Answers to the goals of `print_rings` in src/prints.rt.
 use Rattle.std.proofs.Common.{◌≡◌, length, vec_len, rules, refl, ◌∙◌, arith}
 use Rattle.shelf_io.proofs.Made.{on_err_always}
-use Rattle.place_runs.proofs.MapParts.{ring_room}
-use Rattle.place_runs.proofs.MapPrints.{moves_begun, rings_front, rings_more}
+use Rattle.place_runs.proofs.PrintedMaps.MapParts.{ring_room}
+use Rattle.place_runs.proofs.PrintedMaps.MapPrints.{moves_begun, rings_front, rings_more}
 use Rattle.place_runs.proofs.prints.print_rings.Goals as goal
 
 pub loop-number-init : goal.loop-number-init

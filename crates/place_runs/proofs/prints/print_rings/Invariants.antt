@@ -1,6 +1,6 @@
 -- The invariant of the loop of `print_rings` in src/prints.rt.
 use Rattle.std.proofs.Common.{◌≡◌, ◌≤◌, IsTrue, vec_capacity}
-use Rattle.place_runs.proofs.MapPrints.{HasRings}
+use Rattle.place_runs.proofs.PrintedMaps.MapPrints.{HasRings}
 use Rattle.place_runs.proofs.prints.print_rings.Given as goal
 
 abbrev pub invariant-loop-number : goal.invariant-loop-number

@@ -3,7 +3,7 @@ use Rattle.std.proofs.Common.{List, ℕ}
 use Rattle.shelf_io.specs.Made.{AppendsFront}
 use Rattle.shelf_io.proofs.Made.{on_err_always}
 use Rattle.place_runs.specs.InsideMaps.{IsMapText}
-use Rattle.place_runs.proofs.MapPrints.{opened, opening_front, sides_front, last_front, whole_text, end_front}
+use Rattle.place_runs.proofs.PrintedMaps.MapPrints.{opened, opening_front, sides_front, last_front, whole_text, end_front}
 use Rattle.place_runs.proofs.prints.print_text.Goals as goal
 
 pub returns-in_err-print_changes-clause-err : goal.returns-in_err-print_changes-clause-err

@@ -3,7 +3,7 @@ use Rattle.std.proofs.Common.{ℕ, ◌<◌, ◌≤◌, ◌^◌, List, length, ve
 use Rattle.change_places.specs.Words.{change_words}
 use Rattle.change_places.specs.PlacesText.{change_entry}
 use Rattle.place_runs.specs.InsidePieces.{HasPieces}
-use Rattle.place_runs.proofs.MapParts.{one_more_change, each_at}
+use Rattle.place_runs.proofs.PrintedMaps.MapParts.{one_more_change, each_at}
 use Rattle.place_runs.proofs.rooms.make_room_for_changes.Goals as goal
 
 pub spot-requires-clause-pieces : goal.spot-requires-clause-pieces

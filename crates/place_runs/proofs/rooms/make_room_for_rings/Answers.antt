@@ -1,7 +1,7 @@
 -- Answers to the goals of `make_room_for_rings` in src/rooms.rt.
 use Rattle.std.proofs.Common.{◌<◌, ◌≤◌, ◌^◌, length, vec_capacity, rules, arith}
 use Rattle.std.proofs.Math.Nat.{le_trans}
-use Rattle.place_runs.proofs.MapParts.{one_more_ring}
+use Rattle.place_runs.proofs.PrintedMaps.MapParts.{one_more_ring}
 use Rattle.place_runs.proofs.rooms.make_room_for_rings.Goals as goal
 
 pub loop-ring-preserved : goal.loop-ring-preserved

@@ -1,7 +1,7 @@
 -- Answers to the goals of `room_for` in src/rooms.rt.
 use Rattle.std.proofs.Common.{◌≡◌, ◌≤◌, length, vec_capacity, rules, ap, arith}
 use Rattle.change_places.specs.PlacesText.{opening_text, end_text}
-use Rattle.place_runs.proofs.MapParts.{changes_wider, rings_wider}
+use Rattle.place_runs.proofs.PrintedMaps.MapParts.{changes_wider, rings_wider}
 use Rattle.place_runs.proofs.rooms.room_for.Goals as goal
 
 pub returns-clause-room : goal.returns-clause-room

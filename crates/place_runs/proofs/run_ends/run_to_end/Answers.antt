@@ -9,9 +9,9 @@ use Rattle.publication.proofs.Fronts.{written_front}
 use Rattle.publication.proofs.LimitFronts.{limit_apart}
 use Rattle.publication.proofs.RunEnds.{ends_so, handed_out, words_causes, plain_causes, end_understood, end_unread}
 use Rattle.place_runs.specs.Ends.{Makes}
-use Rattle.place_runs.proofs.RunEnds.{makes_refusal, makes_places, makes_no_job, asks_or_lacks, request_causes}
-use Rattle.place_runs.proofs.RunEnds.{json_told}
-use Rattle.place_runs.proofs.TextLimits.{text_apart}
+use Rattle.place_runs.proofs.Outcomes.RunEnds.{makes_refusal, makes_places, makes_no_job, asks_or_lacks, request_causes}
+use Rattle.place_runs.proofs.Outcomes.RunEnds.{json_told}
+use Rattle.place_runs.proofs.PrintedMaps.TextLimits.{text_apart}
 use Rattle.place_runs.proofs.run_ends.run_to_end.Goals as goal
 
 -- ---- words that are not understood

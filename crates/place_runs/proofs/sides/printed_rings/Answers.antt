@@ -2,7 +2,7 @@
 use Rattle.std.proofs.Common.{sym, ◌∙◌}
 use Rattle.change_places.specs.Words.{layer_words, ring_words}
 use Rattle.place_runs.specs.SidePlaces.{ring_text_of}
-use Rattle.place_runs.proofs.SideSpots.{one_more_ring, no_more_ring}
+use Rattle.place_runs.proofs.PrintedMaps.SideSpots.{one_more_ring, no_more_ring}
 use Rattle.place_runs.proofs.sides.printed_rings.Goals.{then-is_side_printed+in_ok-push, else-is_side_printed}
 use Rattle.place_runs.proofs.sides.printed_rings.Goals as goal
 

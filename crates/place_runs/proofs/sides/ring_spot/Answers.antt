@@ -1,5 +1,5 @@
 -- Answers to the goals of `ring_spot` in src/sides.rt.
-use Rattle.place_runs.proofs.SideSpots.{turn_words, point_words}
+use Rattle.place_runs.proofs.PrintedMaps.SideSpots.{turn_words, point_words}
 use Rattle.place_runs.proofs.sides.ring_spot.Goals as goal
 
 pub returns-in-Turn : goal.returns-in-Turn

@@ -1,6 +1,6 @@
 -- Answers to the goals of `ring_spots` in src/sides.rt.
 use Rattle.change_places.specs.Words.{layer_words}
-use Rattle.place_runs.proofs.SideSpots.{some_rings_are}
+use Rattle.place_runs.proofs.PrintedMaps.SideSpots.{some_rings_are}
 use Rattle.place_runs.proofs.sides.ring_spots.Goals as goal
 
 pub returns-in_ok-printed_rings-in-Some-clause-ok : goal.returns-in_ok-printed_rings-in-Some-clause-ok

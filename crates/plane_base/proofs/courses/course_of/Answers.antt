@@ -2,7 +2,7 @@
 use Rattle.std.proofs.Common.{rules, SFits}
 use Rattle.std.proofs.lemmas.Int.{to_z-of_z}
 use mir.Syntax.{w128}
-use Rattle.plane_base.proofs.Slices.{apart_size}
+use Rattle.plane_base.proofs.CommonParts.Slices.{apart_size}
 use Rattle.plane_base.proofs.courses.course_of.Goals as goal
 
 pub invariant_of-result : goal.invariant_of-result

@@ -1,7 +1,7 @@
 -- Answers to the goals of `is_zero_at` in src/courses.rt.
 use Rattle.std.proofs.Common.{ap, of_z}
 use mir.Syntax.{w128}
-use Rattle.plane_base.proofs.Parts.{zero_by_order}
+use Rattle.plane_base.proofs.CommonParts.Parts.{zero_by_order}
 use Rattle.plane_base.proofs.courses.is_zero_at.Goals as goal
 
 pub returns-then-course : goal.returns-then-course

@@ -2,7 +2,7 @@
 use Rattle.std.proofs.Common.{rules, arith, SFits, pos, ◌≡◌, ◌<ℤ◌, ◌≤ℤ◌}
 use Rattle.std.proofs.lemmas.Int.{ints}
 use mir.Syntax.{w128}
-use Rattle.plane_base.proofs.Parts.{left_rises, left_falls, left_never, left_always}
+use Rattle.plane_base.proofs.CommonParts.Parts.{left_rises, left_falls, left_never, left_always}
 use Rattle.plane_base.proofs.courses.where_left.Goals as goal
 
 pub returns-then-course-clause-within : goal.returns-then-course-clause-within

@@ -2,8 +2,8 @@
 use Rattle.std.proofs.Common.{rules, SFits, pos, ◌-ℤ◌, refl}
 use Rattle.std.proofs.lemmas.Int.{to_z-of_z}
 use mir.Syntax.{w128}
-use Rattle.plane_base.proofs.Parts.{zero_falls, zero_rises, once_falls, once_rises}
-use Rattle.plane_base.proofs.Sizes.{small_back, small_fits, small_minus}
+use Rattle.plane_base.proofs.CommonParts.Parts.{zero_falls, zero_rises, once_falls, once_rises}
+use Rattle.plane_base.proofs.Bounds.Sizes.{small_back, small_fits, small_minus}
 use Rattle.plane_base.proofs.courses.zero_of.Goals as goal
 
 pub returns-then-course-clause-zero : goal.returns-then-course-clause-zero

@@ -1,6 +1,6 @@
 -- Answers to the goals of `edge_param` in src/edges.rt.
 use Rattle.std.proofs.Common.{sym, ◌∙◌}
-use Rattle.plane_base.proofs.Slices.{along_is}
+use Rattle.plane_base.proofs.CommonParts.Slices.{along_is}
 use Rattle.plane_base.proofs.edges.edge_param.Goals as goal
 
 pub returns-clause-meets : goal.returns-clause-meets

@@ -2,7 +2,7 @@
 use Rattle.std.proofs.Common.{rules, SFits, ◌-ℤ◌}
 use Rattle.std.proofs.lemmas.Int.{to_z-of_z}
 use mir.Syntax.{w64}
-use Rattle.plane_base.proofs.Sizes.{difference_size, cross_fits}
+use Rattle.plane_base.proofs.Bounds.Sizes.{difference_size, cross_fits}
 use Rattle.plane_base.proofs.orientations.cross.Goals as goal
 
 pub overflow_sub-result : goal.overflow_sub-result

@@ -2,7 +2,7 @@
 use Rattle.std.proofs.Common.{rules, SFits}
 use Rattle.std.proofs.lemmas.Int.{to_z-of_z}
 use mir.Syntax.{w128}
-use Rattle.plane_base.proofs.InTriangle.{holds_by_tests}
+use Rattle.plane_base.proofs.TriangleLaws.InTriangle.{holds_by_tests}
 use Rattle.plane_base.proofs.orientations.holds.Goals as goal
 
 pub returns : goal.returns

@@ -1,7 +1,7 @@
 -- Answers to the goals of `product` in src/orientations.rt.
 use Rattle.std.proofs.Common.{◌*ℤ◌}
 use Rattle.std.proofs.lemmas.Int.{to_z-of_z}
-use Rattle.plane_base.proofs.Sizes.{product_size, product_fits}
+use Rattle.plane_base.proofs.Bounds.Sizes.{product_size, product_fits}
 use Rattle.plane_base.proofs.orientations.product.Goals as goal
 
 pub overflow_mul-result : goal.overflow_mul-result

@@ -2,7 +2,7 @@
 use Rattle.std.proofs.Common.{rules, SFits, ◌∙◌}
 use Rattle.std.proofs.lemmas.Int.{to_z-of_z}
 use mir.Syntax.{w64, w128}
-use Rattle.plane_base.proofs.Sizes.{turn_whole}
+use Rattle.plane_base.proofs.Bounds.Sizes.{turn_whole}
 use Rattle.plane_base.proofs.orientations.turn.Goals as goal
 
 pub returns-clause-value : goal.returns-clause-value

@@ -1,5 +1,5 @@
 -- Answers to the goals of `common_of` in src/stretches.rt.
-use Rattle.plane_base.proofs.Slices.{all_of}
+use Rattle.plane_base.proofs.CommonParts.Slices.{all_of}
 use Rattle.plane_base.proofs.stretches.common_of.Goals as goal
 
 pub returns-clause-within : goal.returns-clause-within

@@ -2,8 +2,8 @@
 use Rattle.std.proofs.Common.{◌≡◌, pos, IsTrue, refl}
 use Rattle.frac128.specs.Fractions.{IsAtMost}
 use Rattle.frac128.proofs.Fracs.{at_most_of_not_below}
-use Rattle.plane_base.proofs.Slices.{in_iff, both_ways, none_common, some_common, at_lo, at_hi}
-use Rattle.plane_base.proofs.PartEnds.{zero_of_one, lies_at, whole_way}
+use Rattle.plane_base.proofs.CommonParts.Slices.{in_iff, both_ways, none_common, some_common, at_lo, at_hi}
+use Rattle.plane_base.proofs.CommonParts.PartEnds.{zero_of_one, lies_at, whole_way}
 use Rattle.plane_base.proofs.stretches.slice.Goals as goal
 
 pub returns-then-is_below : goal.returns-then-is_below

@@ -4,8 +4,8 @@ use Rattle.std.specs.Prelude.{flat_map}
 use Rattle.ring_side.specs.declared.kinds.Spot.{Spot}
 use Rattle.ring_side.specs.declared.kinds.SideChange.{SideChange}
 use Rattle.ring_side.specs.SideChanges.{point_change}
-use Rattle.ring_side.proofs.OnWay.{added_more, added_at_once, remain_as}
-use Rattle.ring_side.proofs.GroupSpots.{spots_step}
+use Rattle.ring_side.proofs.ChangeLists.OnWay.{added_more, added_at_once, remain_as}
+use Rattle.ring_side.proofs.PointGroups.GroupSpots.{spots_step}
 use Rattle.ring_side.proofs.changes.add_group.Goals as goal
 
 pub loop-vertex-preserved : goal.loop-vertex-preserved

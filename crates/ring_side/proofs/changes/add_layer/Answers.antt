@@ -1,7 +1,7 @@
 -- Answers to the goals of `add_layer` in src/changes.rt.
 use Rattle.std.proofs.Common.{arith}
-use Rattle.ring_side.proofs.Spots.{sheet_is}
-use Rattle.ring_side.proofs.LayerChanges.{path_step}
+use Rattle.ring_side.proofs.PointGroups.Spots.{sheet_is}
+use Rattle.ring_side.proofs.ChangeLists.LayerChanges.{path_step}
 use Rattle.ring_side.proofs.changes.add_layer.Goals as goal
 use Rattle.sheet_base.proofs.TiledPaths.{paths_few}
 

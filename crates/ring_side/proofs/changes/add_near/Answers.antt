@@ -1,6 +1,6 @@
 -- Answers to the goals of `add_near` in src/changes.rt.
 use Rattle.std.proofs.Common.{◌≡◌, ◌+◌, ◌-◌, ◌<◌, length, arith}
-use Rattle.ring_side.proofs.Sifted.{number_in, number_as, sifted_quiet, sifted_pushed}
+use Rattle.ring_side.proofs.PointGroups.Sifted.{number_in, number_as, sifted_quiet, sifted_pushed}
 use Rattle.ring_side.proofs.changes.add_near.Goals as goal
 
 pub is_quiet-requires-clause-groups : goal.is_quiet-requires-clause-groups

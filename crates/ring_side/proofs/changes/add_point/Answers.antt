@@ -1,6 +1,6 @@
 -- Answers to the goals of `add_point` in src/changes.rt.
 use Rattle.tin_base.specs.declared.frames.Frame.TheVariants.{Source, Target}
-use Rattle.ring_side.proofs.RingFacts.{near_ring, near_place, near_form, near_form_to, point_added}
+use Rattle.ring_side.proofs.ChangeLists.RingFacts.{near_ring, near_place, near_form, near_form_to, point_added}
 use Rattle.ring_side.proofs.changes.add_point.Goals as goal
 
 pub side-was-requires-clause-near : goal.side-was-requires-clause-near

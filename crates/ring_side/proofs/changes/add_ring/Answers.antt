@@ -1,11 +1,11 @@
 -- Answers to the goals of `add_ring` in src/changes.rt.
 use Rattle.std.proofs.Common.{◌<◌, ◌≤◌, length, arith}
 use Rattle.tin_base.specs.declared.frames.Frame.TheVariants.{Source, Target}
-use Rattle.ring_side.proofs.RingFacts.{near_ring, near_form}
-use Rattle.ring_side.proofs.LooksNear.{forms_of, corners_near}
-use Rattle.ring_side.proofs.OrderLemmas.{numbers_of}
-use Rattle.ring_side.proofs.RingChanges.{IsLook, near_below, group_as, ring_begun, ring_step, ring_end}
-use Rattle.ring_side.proofs.Sifted.{number_as}
+use Rattle.ring_side.proofs.ChangeLists.RingFacts.{near_ring, near_form}
+use Rattle.ring_side.proofs.ChangeLists.LooksNear.{forms_of, corners_near}
+use Rattle.ring_side.proofs.PointGroups.OrderLemmas.{numbers_of}
+use Rattle.ring_side.proofs.ChangeLists.RingChanges.{IsLook, near_below, group_as, ring_begun, ring_step, ring_end}
+use Rattle.ring_side.proofs.PointGroups.Sifted.{number_as}
 use Rattle.ring_side.proofs.changes.add_ring.Goals as goal
 use Rattle.ring_side.proofs.changes.add_ring.Goals.{then-loop-place-test+else-len-most, else-loop-place-test}
 

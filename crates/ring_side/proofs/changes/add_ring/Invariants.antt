@@ -5,7 +5,7 @@ use Rattle.ring_side.specs.declared.groups.Group.{Group}
 use Rattle.ring_side.specs.SideChanges.{point_change, spots_of}
 use Rattle.ring_side.specs.InsideGroups.{spots_in}
 use Rattle.ring_side.specs.InsideLists.{AreOnWay}
-use Rattle.ring_side.proofs.Candidates.{done_at}
+use Rattle.ring_side.proofs.PointGroups.Candidates.{done_at}
 use Rattle.ring_side.proofs.changes.add_ring.Given as goal
 
 abbrev pub invariant-loop-place : goal.invariant-loop-place

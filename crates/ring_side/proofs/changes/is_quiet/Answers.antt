@@ -1,6 +1,6 @@
 -- Answers to the goals of `is_quiet` in src/changes.rt.
 use Rattle.std.proofs.Common.{IsTrue, inr, arith}
-use Rattle.ring_side.proofs.Sifted.{corner_as, quiet_as, own_as}
+use Rattle.ring_side.proofs.PointGroups.Sifted.{corner_as, quiet_as, own_as}
 use Rattle.ring_side.proofs.changes.is_quiet.Goals as goal
 
 pub has_one_side-requires-clause-source : goal.has_one_side-requires-clause-source

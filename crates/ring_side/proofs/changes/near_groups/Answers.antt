@@ -2,7 +2,7 @@
 use Rattle.std.proofs.Common.{◌≡◌, arith, ap, subst}
 use Rattle.ring_side.specs.InsideClusters.{past_before}
 use Rattle.ring_side.specs.InsideNear.{AreSifted}
-use Rattle.ring_side.proofs.Sifted.{skip_cluster, enter_cluster, leave_cluster, corners_of, candidates_of}
+use Rattle.ring_side.proofs.PointGroups.Sifted.{skip_cluster, enter_cluster, leave_cluster, corners_of, candidates_of}
 use Rattle.ring_side.proofs.changes.near_groups.Goals as goal
 
 pub has_one_side-requires-clause-source : goal.has_one_side-requires-clause-source

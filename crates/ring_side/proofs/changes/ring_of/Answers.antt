@@ -1,7 +1,7 @@
 -- Answers to the goals of `ring_of` in src/changes.rt.
 use Rattle.std.proofs.Common.{arith}
-use Rattle.ring_side.proofs.Spots.{row_rises, sheet_is, images_is}
-use Rattle.ring_side.proofs.RingPoints.{source_is, target_is, counts_of}
+use Rattle.ring_side.proofs.PointGroups.Spots.{row_rises, sheet_is, images_is}
+use Rattle.ring_side.proofs.ChangeLists.RingPoints.{source_is, target_is, counts_of}
 use Rattle.ring_side.proofs.changes.ring_of.Goals as goal
 
 pub overflow_cast-row-2 : goal.overflow_cast-row-2

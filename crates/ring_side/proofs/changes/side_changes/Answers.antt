@@ -1,8 +1,8 @@
 -- Answers to the goals of `side_changes` in src/changes.rt.
 use Rattle.std.proofs.Common.{arith}
 use Rattle.ring_side.specs.SideChanges.{side_changes_of}
-use Rattle.ring_side.proofs.LayerChanges.{layer_step, begun_empty}
-use Rattle.ring_side.proofs.Differing.{first_differ}
+use Rattle.ring_side.proofs.ChangeLists.LayerChanges.{layer_step, begun_empty}
+use Rattle.ring_side.proofs.ChangeLists.Differing.{first_differ}
 use Rattle.ring_side.proofs.changes.side_changes.Goals as goal
 
 pub loop-layer-init : goal.loop-layer-init

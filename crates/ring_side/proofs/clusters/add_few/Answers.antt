@@ -2,7 +2,7 @@
 use Rattle.std.proofs.Common.{◌∙◌, List, sym, subst, refl}
 use Rattle.ring_side.specs.declared.clusters.Cluster.{Cluster}
 use Rattle.ring_side.specs.InsideClusters.{AreClustersUpTo}
-use Rattle.ring_side.proofs.ClusterLemmas.{few_cluster}
+use Rattle.ring_side.proofs.PointGroups.ClusterLemmas.{few_cluster}
 use Rattle.ring_side.proofs.clusters.add_few.Goals as goal
 
 pub returns : goal.returns

@@ -1,6 +1,6 @@
 -- Answers to the goals of `add_joined` in src/clusters.rt.
 use Rattle.std.proofs.Common.{◌∙◌, arith, refl}
-use Rattle.ring_side.proofs.ClusterLemmas.{joined_as, high_as}
+use Rattle.ring_side.proofs.PointGroups.ClusterLemmas.{joined_as, high_as}
 use Rattle.ring_side.proofs.clusters.add_joined.Goals as goal
 
 pub index-requires-in-loop-count : goal.index-requires-in-loop-count

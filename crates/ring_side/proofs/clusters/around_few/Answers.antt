@@ -1,6 +1,6 @@
 -- Answers to the goals of `around_few` in src/clusters.rt.
 use Rattle.std.proofs.Common.{◌+◌, arith, refl}
-use Rattle.ring_side.proofs.ClusterLemmas.{least_of_one_box, least_of_next_box}
+use Rattle.ring_side.proofs.PointGroups.ClusterLemmas.{least_of_one_box, least_of_next_box}
 use Rattle.ring_side.proofs.clusters.around_few.Goals as goal
 
 pub loop-place-init : goal.loop-place-init

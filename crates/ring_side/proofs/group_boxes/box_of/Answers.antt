@@ -1,7 +1,7 @@
 -- Answers to the goals of `box_of` in src/group_boxes.rt.
 use Rattle.std.proofs.Common.{refl, arith}
 use Rattle.ring_side.specs.SideChanges.{place_of}
-use Rattle.ring_side.proofs.GroupSpots.{box_of_first, box_of_spot, box_of_all, among_first, among_spot, among_all}
+use Rattle.ring_side.proofs.PointGroups.GroupSpots.{box_of_first, box_of_spot, box_of_all, among_first, among_spot, among_all}
 use Rattle.ring_side.proofs.group_boxes.box_of.Goals as goal
 
 pub loop-spot-init : goal.loop-spot-init

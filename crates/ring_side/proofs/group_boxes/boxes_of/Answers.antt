@@ -2,7 +2,7 @@
 use Rattle.std.proofs.Common.{ℕ, ◌+◌, ◌<◌, ◌∙◌, length, ap, arith, length-append}
 use Rattle.plane_base.specs.declared.shapes.Rect.{Rect}
 use Rattle.ring_side.specs.InsideGroups.{IsLeastBox, AreAmong, places_in, spots_in, group_at}
-use Rattle.ring_side.proofs.GroupSpots.{box_pushed}
+use Rattle.ring_side.proofs.PointGroups.GroupSpots.{box_pushed}
 use Rattle.ring_side.proofs.group_boxes.boxes_of.Goals as goal
 
 pub loop-group-preserved : goal.loop-group-preserved

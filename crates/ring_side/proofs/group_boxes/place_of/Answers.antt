@@ -1,6 +1,6 @@
 -- Answers to the goals of `place_of` in src/group_boxes.rt.
 use Rattle.std.proofs.Common.{arith}
-use Rattle.ring_side.proofs.Spots.{number_below, number_short, image_below, image_short, among_source, among_target}
+use Rattle.ring_side.proofs.PointGroups.Spots.{number_below, number_short, image_below, image_short, among_source, among_target}
 use Rattle.ring_side.proofs.group_boxes.place_of.Goals as goal
 
 pub overflow_add-number : goal.overflow_add-number

@@ -1,8 +1,8 @@
 -- Answers to the goals of `add_path_groups` in src/groups.rt.
 use Rattle.std.proofs.Common.{[], arith, get_or}
 use Rattle.std.proofs.lemmas.List.Elements.{All-append}
-use Rattle.ring_side.proofs.Spots.{row_is, row_rises}
-use Rattle.ring_side.proofs.GroupSpots.{group_added, all_one}
+use Rattle.ring_side.proofs.PointGroups.Spots.{row_is, row_rises}
+use Rattle.ring_side.proofs.PointGroups.GroupSpots.{group_added, all_one}
 use Rattle.ring_side.proofs.groups.add_path_groups.Goals as goal
 
 pub overflow_sub-count : goal.overflow_sub-count

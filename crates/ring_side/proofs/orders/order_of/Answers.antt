@@ -1,6 +1,6 @@
 -- Answers to the goals of `order_of` in src/orders.rt.
 use Rattle.std.proofs.Common.{◌≡◌, length, arith}
-use Rattle.ring_side.proofs.OrderLemmas.{order_as}
+use Rattle.ring_side.proofs.PointGroups.OrderLemmas.{order_as}
 use Rattle.ring_side.proofs.orders.order_of.Goals as goal
 
 pub returns : goal.returns

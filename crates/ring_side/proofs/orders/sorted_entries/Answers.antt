@@ -1,7 +1,7 @@
 -- Answers to the goals of `sorted_entries` in src/orders.rt.
 use Rattle.std.proofs.Common.{◌≡◌, ◌%◌, ◌^◌, ℕ, arith, length, map, subst}
 use Rattle.ring_side.specs.InsideOrders.{IsOrder}
-use Rattle.ring_side.proofs.OrderLemmas.{entry_pushed, order_moved}
+use Rattle.ring_side.proofs.PointGroups.OrderLemmas.{entry_pushed, order_moved}
 use Rattle.ring_side.proofs.orders.sorted_entries.Goals as goal
 
 pub loop-number-preserved : goal.loop-number-preserved

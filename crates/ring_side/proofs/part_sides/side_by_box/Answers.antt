@@ -1,6 +1,6 @@
 -- Answers to the goals of `side_by_box` in src/part_sides.rt.
 use Rattle.std.proofs.Common.{rules}
-use Rattle.ring_side.proofs.InBoxes.{clear_side, behind_side}
+use Rattle.ring_side.proofs.RingBoxes.InBoxes.{clear_side, behind_side}
 use Rattle.ring_side.proofs.part_sides.side_by_box.Goals as goal
 
 pub returns-then-is_clear : goal.returns-then-is_clear

@@ -1,7 +1,7 @@
 -- Answers to the goals of `does_cross` in src/segments.rt.
 use Rattle.std.proofs.Common.{arith}
 use Rattle.std.proofs.lemmas.Int.{to_z-of_z}
-use Rattle.ring_side.proofs.Crossings.{crosses_rising, crosses_falling}
+use Rattle.ring_side.proofs.PointSides.Crossings.{crosses_rising, crosses_falling}
 use Rattle.ring_side.proofs.segments.does_cross.Goals as goal
 
 pub returns-else-b-p : goal.returns-else-b-p

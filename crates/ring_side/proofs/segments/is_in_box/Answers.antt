@@ -1,7 +1,7 @@
 -- Answers to the goals of `is_in_box` in src/segments.rt.
 use Rattle.std.proofs.Common.{arith}
 use Rattle.std.proofs.lemmas.Int.{to_z-of_z}
-use Rattle.ring_side.proofs.Crossings.{second_test}
+use Rattle.ring_side.proofs.PointSides.Crossings.{second_test}
 use Rattle.ring_side.proofs.segments.is_in_box.Goals as goal
 
 pub returns-then-is_between : goal.returns-then-is_between

@@ -3,8 +3,8 @@ use Rattle.std.proofs.Common.{List, sym, refl, subst, arith, ◌∙◌}
 use Rattle.plane_base.specs.declared.shapes.Rect.{Rect}
 use Rattle.ring_side.specs.declared.trees.RingPart.{RingPart}
 use Rattle.ring_side.specs.InsideTrees.{AreNodesUpTo, IsAroundPart}
-use Rattle.ring_side.proofs.RingParts.{around_both}
-use Rattle.ring_side.proofs.RingNodes.{front_shorter, one_more_node}
+use Rattle.ring_side.proofs.RingBoxes.RingParts.{around_both}
+use Rattle.ring_side.proofs.RingBoxes.RingNodes.{front_shorter, one_more_node}
 use Rattle.ring_side.proofs.trees.+parts.Goals as goal
 
 pub add_part-returns-clause-nodes : goal.add_part-returns-clause-nodes

@@ -1,5 +1,5 @@
 -- Answers to the goals of `around_part` in src/trees.rt.
-use Rattle.ring_side.proofs.RingParts.{around_more}
+use Rattle.ring_side.proofs.RingBoxes.RingParts.{around_more}
 use Rattle.ring_side.proofs.trees.around_part.Goals as goal
 
 pub loop-p-preserved : goal.loop-p-preserved

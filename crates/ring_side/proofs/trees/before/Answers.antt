@@ -1,6 +1,6 @@
 -- Answers to the goals of `before` in src/trees.rt.
 use Rattle.std.proofs.Common.{arith}
-use Rattle.ring_side.proofs.RingParts.{before_first, before_later}
+use Rattle.ring_side.proofs.RingBoxes.RingParts.{before_first, before_later}
 use Rattle.ring_side.proofs.trees.before.Goals as goal
 
 pub returns-then-place-eq0 : goal.returns-then-place-eq0

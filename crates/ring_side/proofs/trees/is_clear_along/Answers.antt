@@ -1,5 +1,5 @@
 -- Answers to the goals of `is_clear_along` in src/trees.rt.
-use Rattle.ring_side.proofs.ClearNodes.{clear_segment}
+use Rattle.ring_side.proofs.RingBoxes.ClearNodes.{clear_segment}
 use Rattle.std.proofs.Common.{arith}
 use Rattle.ring_side.proofs.trees.is_clear_along.Goals as goal
 

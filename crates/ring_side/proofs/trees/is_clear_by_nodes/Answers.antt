@@ -1,7 +1,7 @@
 -- Answers to the goals of `is_clear_by_nodes` in src/trees.rt.
 use Rattle.std.proofs.Common.{◌<◌, ◌-◌, length, arith}
 use Rattle.ring_side.specs.InsideTrees.{node_at}
-use Rattle.ring_side.proofs.ClearNodes.{clear_begins, clear_box, clear_part, clear_enters}
+use Rattle.ring_side.proofs.RingBoxes.ClearNodes.{clear_begins, clear_box, clear_part, clear_enters}
 use Rattle.ring_side.proofs.trees.is_clear_by_nodes.Goals as goal
 
 pub loop-left-init : goal.loop-left-init

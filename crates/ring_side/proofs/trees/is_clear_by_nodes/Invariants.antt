@@ -2,7 +2,7 @@
 use Rattle.std.proofs.Common.{◌≤◌, length}
 use Rattle.ring_side.specs.InsideTrees.{end_before}
 use Rattle.ring_side.specs.InsideClear.{AreSegmentsApart}
-use Rattle.ring_side.proofs.ClearNodes.{chain_from}
+use Rattle.ring_side.proofs.RingBoxes.ClearNodes.{chain_from}
 use Rattle.ring_side.proofs.trees.is_clear_by_nodes.Given as goal
 
 abbrev pub invariant-loop-left : goal.invariant-loop-left

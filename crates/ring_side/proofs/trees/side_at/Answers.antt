@@ -1,7 +1,7 @@
 -- Answers to the goals of `side_at` in src/trees.rt.
 use Rattle.std.proofs.Common.{◌<◌, arith, refl, length}
 use Rattle.ring_side.specs.InsideTrees.{node_at}
-use Rattle.ring_side.proofs.RingParts.{node_told, near_part, near_from, near_point, near_before}
+use Rattle.ring_side.proofs.RingBoxes.RingParts.{node_told, near_part, near_from, near_point, near_before}
 use Rattle.ring_side.proofs.trees.side_at.Goals as goal
 
 pub returns-in-Some-clause-told : goal.returns-in-Some-clause-told

@@ -1,7 +1,7 @@
 -- Answers to the goals of `side_by_nodes` in src/trees.rt.
 use Rattle.std.proofs.Common.{◌<◌, ◌-◌, length, arith}
 use Rattle.ring_side.specs.InsideTrees.{node_at}
-use Rattle.ring_side.proofs.RingNodes.{first_side, side_before, told_part}
+use Rattle.ring_side.proofs.RingBoxes.RingNodes.{first_side, side_before, told_part}
 use Rattle.ring_side.proofs.trees.side_by_nodes.Goals as goal
 
 pub loop-left-init : goal.loop-left-init

@@ -4,8 +4,8 @@ use Rattle.std.specs.Prelude.{FitsSigned}
 use Rattle.std.proofs.lemmas.Int.{to_z-of_z, ints}
 use mir.Syntax.{w128}
 use Rattle.ring_side.specs.Rings.{no_point}
-use Rattle.ring_side.proofs.Nearness.{near_back}
-use Rattle.ring_side.proofs.Sweeps.{turns_step}
+use Rattle.ring_side.proofs.PointSides.Nearness.{near_back}
+use Rattle.ring_side.proofs.PointSides.Sweeps.{turns_step}
 use Rattle.ring_side.proofs.ways.turns_along.Goals as goal
 
 pub loop-to-preserved : goal.loop-to-preserved

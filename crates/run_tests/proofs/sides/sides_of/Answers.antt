@@ -2,7 +2,7 @@
 use Rattle.std.proofs.Common.{[], ◌∷◌, subst, arith}
 use Rattle.tin_base.specs.Limits.{IsWithinLimits}
 use Rattle.tin_base.specs.Triangulation.{Triangulation}
-use Rattle.migrate.proofs.RunSheets.{layers_sided}
+use Rattle.migrate_mode.proofs.RunSheets.{layers_sided}
 use Rattle.run_tests.proofs.sides.sides_of.Goals as goal
 
 pub side_changes-requires : goal.side_changes-requires

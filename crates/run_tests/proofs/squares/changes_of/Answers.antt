@@ -4,7 +4,7 @@ use Rattle.tin_base.specs.declared.pieces.Piece.{Piece}
 use Rattle.tin_base.specs.Limits.{IsWithinLimits}
 use Rattle.tin_base.specs.Triangulation.{Triangulation}
 use Rattle.topo_check.specs.Changes.{AreAllComparable}
-use Rattle.migrate.proofs.ComparablePieces.{pieces_are_comparable}
+use Rattle.migrate_mode.proofs.ComparablePieces.{pieces_are_comparable}
 use Rattle.run_tests.proofs.squares.changes_of.Goals as goal
 
 pub changes-requires-clause-comparable : goal.changes-requires-clause-comparable

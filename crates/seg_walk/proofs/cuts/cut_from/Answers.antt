@@ -5,9 +5,9 @@ use Rattle.plane_base.specs.declared.shapes.Pt.{Pt}
 use Rattle.tin_base.specs.declared.frames.Frame.TheVariants.{Source}
 use Rattle.tin_base.specs.Triangulation.{Triangulation, IsInTriangle}
 use Rattle.tin_base.specs.Segments.{IsInside}
-use Rattle.tin_base.proofs.TestAnswers.{told}
+use Rattle.tin_base.proofs.TriangleLemmas.TestAnswers.{told}
 use Rattle.seg_walk.specs.Steps.{AreSteps}
-use Rattle.tin_base.proofs.Spots.{point_inside, first_inside, last_inside}
+use Rattle.tin_base.proofs.SegmentSpots.Spots.{point_inside, first_inside, last_inside}
 use Rattle.seg_walk.proofs.cuts.cut_from.Goals as goal
 
 always : {A E P : Type 0} (answer : Result A E) → P → IfOk answer (λ _. P)

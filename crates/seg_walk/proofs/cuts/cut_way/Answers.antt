@@ -2,7 +2,7 @@
 use Rattle.std.proofs.Common.{subst}
 use Rattle.tin_base.specs.Soundness.{IsSound}
 use Rattle.tin_base.specs.Triangulation.{Triangulation}
-use Rattle.tin_base.proofs.TestAnswers.{told, denied}
+use Rattle.tin_base.proofs.TriangleLemmas.TestAnswers.{told, denied}
 use Rattle.seg_walk.proofs.StepPieces.{on_start, on_more, at_end, not_inside, one_more}
 use Rattle.seg_walk.proofs.cuts.cut_way.Goals as goal
 

@@ -1,7 +1,7 @@
 -- The invariant and the measure of the loop of `cut_way` in src/cuts.rt.
 use Rattle.std.proofs.Common.{map, length}
 use Rattle.seg_walk.specs.Steps.{part_of}
-use Rattle.tin_base.proofs.UnusedTriangles.{unused}
+use Rattle.tin_base.proofs.PieceChains.UnusedTriangles.{unused}
 use Rattle.seg_walk.proofs.StepPieces.{IsOnWay}
 use Rattle.seg_walk.proofs.cuts.cut_way.Given as goal
 

@@ -1,5 +1,5 @@
 -- Answers to the goals of `slice_in` in src/slices.rt.
-use Rattle.tin_base.proofs.SlicedParts.{slice_told}
+use Rattle.tin_base.proofs.SegmentSpots.SlicedParts.{slice_told}
 use Rattle.seg_walk.proofs.NearCorners.{near_each, near_triangle, near_both}
 use Rattle.seg_walk.proofs.slices.slice_in.Goals as goal
 

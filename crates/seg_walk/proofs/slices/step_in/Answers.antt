@@ -1,9 +1,9 @@
 -- Answers to the goals of `step_in` in src/slices.rt.
-use Rattle.tin_base.proofs.TestAnswers.{told, denied}
+use Rattle.tin_base.proofs.TriangleLemmas.TestAnswers.{told, denied}
 use Rattle.tin_base.specs.Slices.{IsSliceIn}
-use Rattle.tin_base.proofs.SlicedParts.{params, part_told, not_begun}
+use Rattle.tin_base.proofs.SegmentSpots.SlicedParts.{params, part_told, not_begun}
 use Rattle.seg_walk.proofs.FirstTriangles.{not_missed}
-use Rattle.tin_base.proofs.Params.{same_spot}
+use Rattle.tin_base.proofs.SegmentSpots.Params.{same_spot}
 use Rattle.plain_laws.proofs.Options.{some_told, none_told}
 use Rattle.seg_walk.proofs.slices.step_in.Goals as goal
 

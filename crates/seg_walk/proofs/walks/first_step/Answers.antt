@@ -4,12 +4,12 @@ use Rattle.tin_base.specs.Limits.{IsWithinLimits}
 use Rattle.tin_base.specs.Segments.{at_a}
 use Rattle.tin_base.specs.Soundness.{IsSound}
 use Rattle.tin_base.specs.Triangulation.{Triangulation}
-use Rattle.tin_base.proofs.TestAnswers.{told, denied}
+use Rattle.tin_base.proofs.TriangleLemmas.TestAnswers.{told, denied}
 use Rattle.tin_base.specs.Slices.{spot_of, IsSliceIn}
 use Rattle.seg_walk.specs.InsideStarts.{MissesTriangle}
-use Rattle.tin_base.proofs.SlicedParts.{params}
+use Rattle.tin_base.proofs.SegmentSpots.SlicedParts.{params}
 use Rattle.seg_walk.proofs.NextTriangles.{goes_same}
-use Rattle.tin_base.proofs.Params.{spot_some}
+use Rattle.tin_base.proofs.SegmentSpots.Params.{spot_some}
 use Rattle.seg_walk.proofs.Start.{first_not_missed, goes_on, ends_there, far_from_end, to_first, from_first_spot}
 use Rattle.seg_walk.proofs.walks.first_step.Goals.{Else-is_below}
 use Rattle.seg_walk.proofs.walks.first_step.Goals as goal

@@ -2,7 +2,7 @@
 use Rattle.std.proofs.Common.{subst}
 use Rattle.tin_base.specs.Limits.{IsWithinLimits}
 use Rattle.tin_base.specs.Triangulation.{Triangulation}
-use Rattle.tin_base.proofs.SlicedParts.{params}
+use Rattle.tin_base.proofs.SegmentSpots.SlicedParts.{params}
 use Rattle.seg_walk.proofs.Leave.{left_at, not_at_end}
 use Rattle.seg_walk.proofs.walks.step_after.Goals as goal
 

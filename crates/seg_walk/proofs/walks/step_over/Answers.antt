@@ -4,7 +4,7 @@ use Rattle.plane_base.specs.Plane.{whole}
 use Rattle.tin_base.specs.declared.frames.Frame.TheVariants.{Source}
 use Rattle.tin_base.specs.Images.{IsInSome}
 use Rattle.tin_base.specs.Triangulation.{Triangulation}
-use Rattle.tin_base.proofs.TestAnswers.{told, denied}
+use Rattle.tin_base.proofs.TriangleLemmas.TestAnswers.{told, denied}
 use Rattle.tin_index.specs.Boxes.{IsNearCorners}
 use Rattle.tin_index.specs.Sides.{corner_of, IsStar, IsAcross}
 use Rattle.tin_base.specs.Slices.{spot_of}

@@ -1,5 +1,5 @@
 -- The proof of the law `pieces_follow` in src/laws.rt.
-use Rattle.tin_base.proofs.Chain.{chain, covered}
+use Rattle.tin_base.proofs.PieceChains.Chain.{chain, covered}
 use Rattle.tin_base.proofs.laws.pieces_follow.Goals as goal
 
 pub returns : goal.returns

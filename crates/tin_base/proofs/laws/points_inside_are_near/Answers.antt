@@ -1,5 +1,5 @@
 -- The proof of the law `points_inside_are_near` in src/laws.rt.
-use Rattle.tin_base.proofs.Closeness.{near_inside}
+use Rattle.tin_base.proofs.TriangleLemmas.Closeness.{near_inside}
 use Rattle.tin_base.proofs.laws.points_inside_are_near.Goals as goal
 
 pub returns : goal.returns

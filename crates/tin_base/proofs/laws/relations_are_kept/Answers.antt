@@ -1,5 +1,5 @@
 -- The proof of the law `relations_are_kept` in src/laws.rt.
-use Rattle.tin_base.proofs.SegmentImages.{relation_kept}
+use Rattle.tin_base.proofs.FrameImages.SegmentImages.{relation_kept}
 use Rattle.tin_base.proofs.laws.relations_are_kept.Goals as goal
 
 pub returns : goal.returns

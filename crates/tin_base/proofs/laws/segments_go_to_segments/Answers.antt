@@ -1,5 +1,5 @@
 -- The proof of the law `segments_go_to_segments` in src/laws.rt.
-use Rattle.tin_base.proofs.SegmentImages.{images_between, each_between}
+use Rattle.tin_base.proofs.FrameImages.SegmentImages.{images_between, each_between}
 use Rattle.tin_base.proofs.laws.segments_go_to_segments.Goals as goal
 
 pub returns : goal.returns

@@ -1,5 +1,5 @@
 -- The proof of the law `target_points_are_images` in src/laws.rt.
-use Rattle.tin_base.proofs.Agreement.{each_is_image}
+use Rattle.tin_base.proofs.FrameImages.Agreement.{each_is_image}
 use Rattle.tin_base.proofs.laws.target_points_are_images.Goals as goal
 
 pub returns : goal.returns

@@ -2,7 +2,7 @@
 use Rattle.std.proofs.Common.{sym, subst}
 use Rattle.tin_base.specs.Triangulation.{Triangulation}
 use Rattle.tin_base.specs.Soundness.{IsSound}
-use Rattle.tin_base.proofs.Converse.{turned_sound}
+use Rattle.tin_base.proofs.FrameImages.Converse.{turned_sound}
 use Rattle.tin_base.proofs.sound_tins.turned.Goals as goal
 
 pub invariant_of-result : goal.invariant_of-result

@@ -1,5 +1,5 @@
 -- Answers to the goals of `exchange_all` in src/tins.rt.
-use Rattle.tin_base.proofs.FrameExchange.{step}
+use Rattle.tin_base.proofs.FrameImages.FrameExchange.{step}
 use Rattle.tin_base.proofs.tins.exchange_all.Goals as goal
 
 pub loop-corner-preserved : goal.loop-corner-preserved

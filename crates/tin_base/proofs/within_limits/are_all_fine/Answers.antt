@@ -4,7 +4,7 @@ use borrow.Author.Count.{below_more}
 use Rattle.tin_base.specs.declared.frames.Frame.{Frame}
 use Rattle.tin_base.specs.Triangulation.{no_corner}
 use Rattle.tin_base.specs.Limits.{IsCornerInReach}
-use Rattle.tin_base.proofs.TestAnswers.{denied, told, no, yes}
+use Rattle.tin_base.proofs.TriangleLemmas.TestAnswers.{denied, told, no, yes}
 use Rattle.tin_base.specs.InsideLimits.{IsBesideFirst}
 use Rattle.tin_base.proofs.LimitLemmas.{at_end}
 use Rattle.tin_base.proofs.within_limits.are_all_fine.Goals as goal

@@ -1,6 +1,6 @@
 -- Answers to the goals of `are_beside` in src/within_limits.rt.
 use Rattle.tin_base.specs.declared.frames.Frame.TheVariants.{Source}
-use Rattle.tin_base.proofs.TestAnswers.{no, denied, told}
+use Rattle.tin_base.proofs.TriangleLemmas.TestAnswers.{no, denied, told}
 use Rattle.tin_base.proofs.LimitLemmas.{beside_told}
 use Rattle.tin_base.proofs.within_limits.are_beside.Goals as goal
 

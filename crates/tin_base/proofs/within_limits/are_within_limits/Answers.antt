@@ -1,5 +1,5 @@
 -- Answers to the goals of `are_within_limits` in src/within_limits.rt.
-use Rattle.tin_base.proofs.TestAnswers.{told}
+use Rattle.tin_base.proofs.TriangleLemmas.TestAnswers.{told}
 use Rattle.tin_base.proofs.LimitLemmas.{all_told}
 use Rattle.tin_base.proofs.within_limits.are_within_limits.Goals as goal
 

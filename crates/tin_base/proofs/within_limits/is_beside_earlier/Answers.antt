@@ -2,7 +2,7 @@
 use Rattle.std.proofs.Common.{ℕ, get_or}
 use borrow.Author.Count.{below_more}
 use Rattle.tin_base.specs.Triangulation.{no_corner}
-use Rattle.tin_base.proofs.TestAnswers.{told}
+use Rattle.tin_base.proofs.TriangleLemmas.TestAnswers.{told}
 use Rattle.tin_base.specs.InsideLimits.{AreBeside}
 use Rattle.tin_base.proofs.within_limits.is_beside_earlier.Goals as goal
 

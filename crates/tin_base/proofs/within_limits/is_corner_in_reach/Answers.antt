@@ -1,7 +1,7 @@
 -- Answers to the goals of `is_corner_in_reach` in src/within_limits.rt.
 use Rattle.tin_base.specs.declared.frames.Frame.TheVariants.{Source}
 use Rattle.tin_base.specs.Limits.{IsCornerInReach}
-use Rattle.tin_base.proofs.TestAnswers.{no, denied, told}
+use Rattle.tin_base.proofs.TriangleLemmas.TestAnswers.{no, denied, told}
 use Rattle.tin_base.proofs.LimitLemmas.{both_told}
 use Rattle.tin_base.proofs.within_limits.is_corner_in_reach.Goals as goal
 

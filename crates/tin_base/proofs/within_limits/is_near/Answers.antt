@@ -2,7 +2,7 @@
 use Rattle.std.proofs.Common.{rules, FitsSigned}
 use Rattle.std.proofs.lemmas.Int.{to_z-of_z}
 use mir.Syntax.{w64}
-use Rattle.tin_base.proofs.TestAnswers.{denied, told, no}
+use Rattle.tin_base.proofs.TriangleLemmas.TestAnswers.{denied, told, no}
 use Rattle.tin_base.proofs.LimitLemmas.{near_both, far_on_x}
 use Rattle.tin_base.proofs.within_limits.is_near.Goals as goal
 

@@ -1,5 +1,5 @@
 -- Answers to the goals of `around_triangles` in src/border_fits.rt.
-use Rattle.tin_check.proofs.SideTrees.{first_in, joined_in}
+use Rattle.tin_check.proofs.BorderLemmas.SideTrees.{first_in, joined_in}
 use Rattle.tin_check.proofs.border_fits.around_triangles.Goals as goal
 
 pub loop-triangle-init : goal.loop-triangle-init

@@ -2,7 +2,7 @@
 use Rattle.std.proofs.Common.{◌+◌, length, ap, refl, arith}
 use Rattle.tin_base.specs.declared.frames.Frame.TheVariants.{Source, Target}
 use Rattle.tin_check.specs.InsideSideTrees.{first_of, past_of}
-use Rattle.tin_check.proofs.SideTrees.{some_more_meet, all_meet}
+use Rattle.tin_check.proofs.BorderLemmas.SideTrees.{some_more_meet, all_meet}
 use Rattle.tin_check.proofs.border_fits.do_all_meet.Goals as goal
 
 pub loop-first-preserved : goal.loop-first-preserved

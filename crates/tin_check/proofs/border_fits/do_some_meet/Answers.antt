@@ -1,7 +1,7 @@
 -- Answers to the goals of `do_some_meet` in src/border_fits.rt.
 use Rattle.std.proofs.Common.{refl, arith}
 use Rattle.tin_check.specs.InsideSideTrees.{first_of, past_of}
-use Rattle.tin_check.proofs.SideTrees.{far_meet, one_more_meets, fewer_meet}
+use Rattle.tin_check.proofs.BorderLemmas.SideTrees.{far_meet, one_more_meets, fewer_meet}
 use Rattle.tin_check.proofs.border_fits.do_some_meet.Goals as goal
 
 pub returns-then-is_far : goal.returns-then-is_far

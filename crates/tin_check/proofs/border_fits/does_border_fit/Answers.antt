@@ -3,7 +3,7 @@ use Rattle.std.proofs.Common.{List, length, sym, ap, subst, ◌∙◌}
 use Rattle.tin_base.specs.declared.frames.Frame.TheVariants.{Source, Target}
 use Rattle.tin_check.specs.declared.borders.BorderSide.{BorderSide}
 use Rattle.tin_check.specs.InsideSideTrees.{first_of, past_of, DoAllMeet}
-use Rattle.tin_check.proofs.SideTrees.{border_fits_all}
+use Rattle.tin_check.proofs.BorderLemmas.SideTrees.{border_fits_all}
 use Rattle.tin_check.proofs.border_fits.does_border_fit.Goals as goal
 
 pub returns-clause-source : goal.returns-clause-source

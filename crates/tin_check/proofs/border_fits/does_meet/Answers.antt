@@ -1,6 +1,6 @@
 -- Answers to the goals of `does_meet` in src/border_fits.rt.
 use Rattle.std.proofs.Common.{true, false}
-use Rattle.tin_check.proofs.SideMeetings.{meets_first, meets_second, meets_none, read_has}
+use Rattle.tin_check.proofs.BorderLemmas.SideMeetings.{meets_first, meets_second, meets_none, read_has}
 use Rattle.tin_check.proofs.border_fits.does_meet.Goals as goal
 
 pub returns-in-true-false : goal.returns-in-true-false

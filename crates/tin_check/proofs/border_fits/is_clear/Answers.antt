@@ -1,6 +1,6 @@
 -- Answers to the goals of `is_clear` in src/border_fits.rt.
 use Rattle.std.proofs.Common.{refl}
-use Rattle.tin_check.proofs.SideMeetings.{near_side, near_ends, clear_by, beyond_clear, not_found}
+use Rattle.tin_check.proofs.BorderLemmas.SideMeetings.{near_side, near_ends, clear_by, beyond_clear, not_found}
 use Rattle.tin_check.proofs.border_fits.is_clear.Goals as goal
 
 pub is_beyond-requires-clause-near : goal.is_beyond-requires-clause-near

@@ -1,5 +1,5 @@
 -- Answers to the goals of `turns_away` in src/border_fits.rt.
-use Rattle.tin_check.proofs.SideMeetings.{away_meets}
+use Rattle.tin_check.proofs.BorderLemmas.SideMeetings.{away_meets}
 use Rattle.tin_check.proofs.border_fits.turns_away.Goals as goal
 
 pub returns-in-Some : goal.returns-in-Some

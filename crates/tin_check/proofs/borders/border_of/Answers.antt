@@ -1,5 +1,5 @@
 -- Answers to the goals of `border_of` in src/borders.rt.
-use Rattle.tin_check.proofs.BorderSides.{border_is}
+use Rattle.tin_check.proofs.BorderLemmas.BorderSides.{border_is}
 use Rattle.tin_check.proofs.borders.border_of.Goals as goal
 
 pub returns : goal.returns

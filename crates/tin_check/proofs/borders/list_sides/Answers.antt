@@ -1,5 +1,5 @@
 -- Answers to the goals of `list_sides` in src/borders.rt.
-use Rattle.tin_check.proofs.BorderSides.{next_listed}
+use Rattle.tin_check.proofs.BorderLemmas.BorderSides.{next_listed}
 use Rattle.tin_check.proofs.borders.list_sides.Goals as goal
 
 pub returns-clause-listed : goal.returns-clause-listed

@@ -2,7 +2,7 @@
 use Rattle.std.proofs.Common.{sym, subst}
 use Rattle.plane_base.specs.declared.shapes.Rect.{Rect}
 use Rattle.tin_check.specs.InsideBoxes.{IsBoxOf}
-use Rattle.tin_check.proofs.InBoxes.{box_is}
+use Rattle.tin_check.proofs.PairFits.InBoxes.{box_is}
 use Rattle.tin_check.proofs.boxes.box_in.Goals as goal
 
 pub returns : goal.returns

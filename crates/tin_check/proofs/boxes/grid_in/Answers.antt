@@ -1,6 +1,6 @@
 -- Answers to the goals of `grid_in` in src/boxes.rt.
 use Rattle.std.proofs.Common.{arith}
-use Rattle.tin_check.proofs.Apart.{more_boxes, all_boxes, boxes_ordered, boxes_span}
+use Rattle.tin_check.proofs.PairFits.Apart.{more_boxes, all_boxes, boxes_ordered, boxes_span}
 use Rattle.tin_check.proofs.boxes.grid_in.Goals as goal
 
 pub loop-triangle-preserved : goal.loop-triangle-preserved

@@ -3,9 +3,9 @@ use Rattle.std.proofs.Common.{subst, sym}
 use Rattle.std.proofs.lemmas.Result.{err_from_is_err_and}
 use Rattle.tin_base.specs.Triangulation.{Triangulation}
 use Rattle.tin_base.specs.Laws.{IsOneToOne}
-use Rattle.tin_base.proofs.Converse.{one_to_one}
-use Rattle.tin_check.proofs.FirstFault.{unsound, refused}
-use Rattle.tin_check.proofs.Progress.{checked}
+use Rattle.tin_base.proofs.FrameImages.Converse.{one_to_one}
+use Rattle.tin_check.proofs.CallerLemmas.FirstFault.{unsound, refused}
+use Rattle.tin_check.proofs.CallerLemmas.Progress.{checked}
 use Rattle.tin_check.proofs.checks.check_tin.Goals as goal
 
 pub returns-in_err-check_triangles-clause-accepted :

@@ -3,7 +3,7 @@ use Rattle.std.proofs.Common.{◌≡◌, pos, ◌<ℤ◌, arith}
 use Rattle.std.proofs.lemmas.Int.{ints}
 use Rattle.tin_base.specs.Soundness.{turn_in}
 use Rattle.tin_base.specs.declared.frames.Frame.TheVariants.{Source, Target}
-use Rattle.tin_check.proofs.FirstFault.{flat_source, one_more_positive}
+use Rattle.tin_check.proofs.CallerLemmas.FirstFault.{flat_source, one_more_positive}
 use Rattle.tin_check.proofs.checks.check_turns.Goals as goal
 
 pub returns-then-source-eq0-clause-first : goal.returns-then-source-eq0-clause-first

@@ -1,9 +1,9 @@
 -- Answers to the goals of `earlier` in src/checks.rt.
 use Rattle.std.proofs.Common.{sym, subst, refl}
-use Rattle.tin_base.proofs.TestAnswers.{denied}
+use Rattle.tin_base.proofs.TriangleLemmas.TestAnswers.{denied}
 use Rattle.tin_check.specs.Faults.{IsCause}
 use Rattle.tin_check.specs.declared.faults.CheckFault.{CheckFault}
-use Rattle.tin_check.proofs.FirstFault.{source_first, target_first}
+use Rattle.tin_check.proofs.CallerLemmas.FirstFault.{source_first, target_first}
 use Rattle.tin_check.proofs.checks.earlier.Goals as goal
 
 pub returns-then-is_before : goal.returns-then-is_before

@@ -5,7 +5,7 @@ use Rattle.tin_check.specs.Faults.{IsCause}
 use Rattle.tin_check.specs.InsideProgress.{IsFirstFoundBelow}
 use Rattle.tin_check.specs.declared.faults.CheckFault.{CheckFault}
 use Rattle.tin_check.specs.declared.pairs.TrianglePair.{TrianglePair}
-use Rattle.tin_check.proofs.FirstFault.{source_before}
+use Rattle.tin_check.proofs.CallerLemmas.FirstFault.{source_before}
 use Rattle.tin_check.proofs.checks.first_meeting.Goals as goal
 
 pub returns-in-Ok-None : goal.returns-in-Ok-None

@@ -3,12 +3,12 @@ use Rattle.std.proofs.Common.{ℕ, [], refl, sym, subst, arith}
 use Rattle.tin_base.specs.Triangulation.{numbers_of}
 use Rattle.tin_check.specs.Marks.{points_of, marked_of}
 use Rattle.tin_check.specs.InsideNumbers.{AreCounted}
-use Rattle.tin_check.proofs.CornerShifts.{fits_by}
-use Rattle.tin_check.proofs.CornerMarks.{all_near, marks_read, same_read, told_read}
-use Rattle.tin_check.proofs.BySides.{side_tells_on, side_read}
-use Rattle.tin_check.proofs.ByCorner.{corner_read, from_read, from_counted, corner_tells}
-use Rattle.tin_check.proofs.ByNumbers.{none_read}
-use Rattle.tin_base.proofs.TestAnswers.{yes}
+use Rattle.tin_check.proofs.TriangleTests.CornerShifts.{fits_by}
+use Rattle.tin_check.proofs.CallerLemmas.CornerMarks.{all_near, marks_read, same_read, told_read}
+use Rattle.tin_check.proofs.PairFits.BySides.{side_tells_on, side_read}
+use Rattle.tin_check.proofs.PairFits.ByCorner.{corner_read, from_read, from_counted, corner_tells}
+use Rattle.tin_check.proofs.PairFits.ByNumbers.{none_read}
+use Rattle.tin_base.proofs.TriangleLemmas.TestAnswers.{yes}
 use Rattle.tin_check.proofs.pairs.fit_in.Goals as goal
 
 pub are_apart-requires-clause-near : goal.are_apart-requires-clause-near

@@ -1,7 +1,7 @@
 -- Answers to the goals of `part_at` in src/pairs.rt.
 use Rattle.std.proofs.Common.{length}
 use Rattle.tin_base.specs.Triangulation.{numbers_of}
-use Rattle.tin_check.proofs.ByCorner.{counted_within, counted_near, counted_positive, same_corner, read_meet}
+use Rattle.tin_check.proofs.PairFits.ByCorner.{counted_within, counted_near, counted_positive, same_corner, read_meet}
 use Rattle.tin_check.proofs.pairs.part_at.Goals as goal
 
 pub tri_at-requires-clause-first : goal.tri_at-requires-clause-first

@@ -1,6 +1,6 @@
 -- Answers to the goals of `do_all_fit` in src/searches.rt.
 use Rattle.std.proofs.Common.{refl, arith}
-use Rattle.tin_check.proofs.Partners.{partners_in_range, more_partners, all_partners_fit}
+use Rattle.tin_check.proofs.PairFits.Partners.{partners_in_range, more_partners, all_partners_fit}
 use Rattle.tin_check.proofs.searches.do_all_fit.Goals as goal
 
 pub fits_each-requires-clause-others : goal.fits_each-requires-clause-others

@@ -1,5 +1,5 @@
 -- The invariant of the loop of `do_all_fit` in src/searches.rt.
-use Rattle.tin_check.proofs.Partners.{DoPartnersFit}
+use Rattle.tin_check.proofs.PairFits.Partners.{DoPartnersFit}
 use Rattle.tin_check.proofs.searches.do_all_fit.Given as goal
 
 -- the triangles so far fit with their partners

@@ -1,6 +1,6 @@
 -- Answers to the goals of `first_by_grid` in src/searches.rt.
 use Rattle.std.proofs.Common.{arith}
-use Rattle.tin_check.proofs.Progress.{first_of_all}
+use Rattle.tin_check.proofs.CallerLemmas.Progress.{first_of_all}
 use Rattle.tin_check.proofs.searches.first_by_grid.Goals as goal
 
 pub returns : goal.returns

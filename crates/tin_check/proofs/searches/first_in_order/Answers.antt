@@ -1,8 +1,8 @@
 -- Answers to the goals of `first_in_order` in src/searches.rt.
 use Rattle.std.proofs.Common.{arith}
-use Rattle.tin_check.proofs.Partners.{near_in_range, others_fit}
-use Rattle.tin_check.proofs.InBoxes.{box_ordered}
-use Rattle.tin_check.proofs.Progress.{fit_below}
+use Rattle.tin_check.proofs.PairFits.Partners.{near_in_range, others_fit}
+use Rattle.tin_check.proofs.PairFits.InBoxes.{box_ordered}
+use Rattle.tin_check.proofs.CallerLemmas.Progress.{fit_below}
 use Rattle.tin_check.proofs.searches.first_in_order.Goals as goal
 
 pub near-requires : goal.near-requires

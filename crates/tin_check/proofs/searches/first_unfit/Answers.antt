@@ -1,6 +1,6 @@
 -- Answers to the goals of `first_unfit` in src/searches.rt.
 use Rattle.std.proofs.Common.{refl}
-use Rattle.tin_check.proofs.Progress.{first_of_list, one_more_listed, one_more_first}
+use Rattle.tin_check.proofs.CallerLemmas.Progress.{first_of_list, one_more_listed, one_more_first}
 use Rattle.tin_check.proofs.searches.first_unfit.Goals as goal
 
 pub returns-then-is_unfit : goal.returns-then-is_unfit

@@ -1,5 +1,5 @@
 -- The invariant of the loop of `first_unfit` in src/searches.rt.
-use Rattle.tin_check.proofs.Progress.{DoListedFit}
+use Rattle.tin_check.proofs.CallerLemmas.Progress.{DoListedFit}
 use Rattle.tin_check.proofs.searches.first_unfit.Given as goal
 
 -- those so far fit

@@ -1,6 +1,6 @@
 -- Answers to the goals of `fits_each` in src/searches.rt.
-use Rattle.tin_base.proofs.TestAnswers.{told}
-use Rattle.tin_check.proofs.Partners.{one_more_other, all_others}
+use Rattle.tin_base.proofs.TriangleLemmas.TestAnswers.{told}
+use Rattle.tin_check.proofs.PairFits.Partners.{one_more_other, all_others}
 use Rattle.tin_check.proofs.searches.fits_each.Goals as goal
 
 pub loop-other-preserved : goal.loop-other-preserved

@@ -1,5 +1,5 @@
 -- The invariant of the loop of `fits_each` in src/searches.rt.
-use Rattle.tin_check.proofs.Partners.{DoFirstOthersFit}
+use Rattle.tin_check.proofs.PairFits.Partners.{DoFirstOthersFit}
 use Rattle.tin_check.proofs.searches.fits_each.Given as goal
 
 -- those so far fit

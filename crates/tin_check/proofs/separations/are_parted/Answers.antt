@@ -2,7 +2,7 @@
 use Rattle.std.proofs.Common.{FitsSigned, rules, inl, inr, refl}
 use Rattle.std.proofs.lemmas.Int.{to_z-of_z}
 use mir.Syntax.{w128}
-use Rattle.tin_check.proofs.TurnTests.{near_three, parted_meet}
+use Rattle.tin_check.proofs.TriangleTests.TurnTests.{near_three, parted_meet}
 use Rattle.tin_check.proofs.separations.are_parted.Goals as goal
 
 pub turn-requires : goal.turn-requires

@@ -1,6 +1,6 @@
 -- Answers to the goals of `is_beyond` in src/separations.rt.
 use Rattle.std.proofs.Common.{refl}
-use Rattle.tin_check.proofs.TurnTests.{beyond_first, beyond_second, beyond_third}
+use Rattle.tin_check.proofs.TriangleTests.TurnTests.{beyond_first, beyond_second, beyond_third}
 use Rattle.tin_check.proofs.separations.is_beyond.Goals as goal
 
 pub returns-then-is_right_of : goal.returns-then-is_right_of

@@ -5,7 +5,7 @@ use Rattle.number_groups.specs.declared.groups.Entry.{Entry}
 use Rattle.number_groups.specs.Groups.{numbers_under}
 use Rattle.tin_check.specs.InsideBorders.{side_at}
 use Rattle.tin_check.specs.declared.side_orders.TheConstants.{KEYS}
-use Rattle.tin_check.proofs.SideOrders.{numbered_small, more_taken, all_taken}
+use Rattle.tin_check.proofs.BorderLemmas.SideOrders.{numbered_small, more_taken, all_taken}
 use Rattle.tin_check.proofs.side_orders.sides_in_order.Goals as goal
 
 pub put_sides-requires : goal.put_sides-requires

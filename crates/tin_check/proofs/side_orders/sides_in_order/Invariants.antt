@@ -1,5 +1,5 @@
 -- The invariant of the loop of `sides_in_order` in src/side_orders.rt.
-use Rattle.tin_check.proofs.SideOrders.{AreTaken}
+use Rattle.tin_check.proofs.BorderLemmas.SideOrders.{AreTaken}
 use Rattle.tin_check.proofs.side_orders.sides_in_order.Given as goal
 
 -- the sides with the keys so far are taken

@@ -3,7 +3,7 @@ use Rattle.std.proofs.Common.{refl, subst, sym, ap}
 use Rattle.tin_check.specs.declared.side_trees.SideTree.{SideTree}
 use Rattle.tin_check.specs.declared.side_trees.SideTree.TheVariants.{Parts}
 use Rattle.tin_check.specs.InsideSideTrees.{first_of, past_of, IsTree}
-use Rattle.tin_check.proofs.SideTrees.{AreFarIn, halves_far}
+use Rattle.tin_check.proofs.BorderLemmas.SideTrees.{AreFarIn, halves_far}
 use Rattle.tin_check.proofs.side_trees.+is_far.Goals as goal
 
 pub returns-else-not-is_far : goal.returns-else-not-is_far

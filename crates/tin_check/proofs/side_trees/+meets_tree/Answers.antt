@@ -4,7 +4,7 @@ use Rattle.tin_check.specs.declared.side_trees.SideTree.{SideTree}
 use Rattle.tin_check.specs.declared.side_trees.SideTree.TheVariants.{Parts}
 use Rattle.plane_base.specs.declared.shapes.Rect.{Rect}
 use Rattle.tin_check.specs.InsideSideTrees.{first_of, past_of, around_of, IsAround, IsNearBox, IsTree}
-use Rattle.tin_check.proofs.SideTrees.{box_near_tri, clear_meets, parts_meet, tree_around}
+use Rattle.tin_check.proofs.BorderLemmas.SideTrees.{box_near_tri, clear_meets, parts_meet, tree_around}
 use Rattle.tin_check.proofs.side_trees.+meets_tree.Goals as goal
 
 pub is_clear_of-requires-clause-near : goal.is_clear_of-requires-clause-near

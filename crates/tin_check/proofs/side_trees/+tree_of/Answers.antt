@@ -1,7 +1,7 @@
 -- Answers to the goals of `tree_of` in src/side_trees.rt.
 use Rattle.std.proofs.Common.{sym, ap₂, ◌∙◌}
 use Rattle.plane_base.specs.Boxes.{box_of_boxes}
-use Rattle.tin_check.proofs.SideTrees.{parts_tree}
+use Rattle.tin_check.proofs.BorderLemmas.SideTrees.{parts_tree}
 use Rattle.tin_check.proofs.side_trees.+tree_of.Goals as goal
 
 pub returns-clause-tree : goal.returns-clause-tree

@@ -2,7 +2,7 @@
 use Rattle.std.proofs.Common.{◌<◌, ◌+◌, length, refl, subst, sym, arith}
 use Rattle.plane_base.specs.declared.shapes.Rect.{Rect}
 use Rattle.tin_check.specs.InsideSideTrees.{IsAround}
-use Rattle.tin_check.proofs.SideTrees.{side_around, joined_around}
+use Rattle.tin_check.proofs.BorderLemmas.SideTrees.{side_around, joined_around}
 use Rattle.tin_check.proofs.side_trees.around_sides.Goals as goal
 
 pub loop-number-init : goal.loop-number-init

@@ -1,5 +1,5 @@
 -- Answers to the goals of `is_box_right_of` in src/side_trees.rt.
-use Rattle.tin_check.proofs.SideTrees.{corner_near, corner_right}
+use Rattle.tin_check.proofs.BorderLemmas.SideTrees.{corner_near, corner_right}
 use Rattle.tin_check.proofs.side_trees.is_box_right_of.Goals as goal
 
 pub turns_right-requires : goal.turns_right-requires

@@ -1,6 +1,6 @@
 -- Answers to the goals of `is_clear_of` in src/side_trees.rt.
 use Rattle.std.proofs.Common.{inl, inr, refl}
-use Rattle.tin_check.proofs.SideTrees.{apart_clear, right_clear}
+use Rattle.tin_check.proofs.BorderLemmas.SideTrees.{apart_clear, right_clear}
 use Rattle.tin_check.proofs.side_trees.is_clear_of.Goals as goal
 
 pub returns-then-is_apart_from : goal.returns-then-is_apart_from

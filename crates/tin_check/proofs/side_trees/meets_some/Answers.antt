@@ -1,6 +1,6 @@
 -- Answers to the goals of `meets_some` in src/side_trees.rt.
 use Rattle.std.proofs.Common.{refl}
-use Rattle.tin_check.proofs.SideTrees.{more_meet}
+use Rattle.tin_check.proofs.BorderLemmas.SideTrees.{more_meet}
 use Rattle.tin_check.proofs.side_trees.meets_some.Goals as goal
 
 pub loop-number-preserved : goal.loop-number-preserved

@@ -1,7 +1,7 @@
 -- Answers to the goals of `fit_at_side` in src/triangle_fits.rt.
 use Rattle.std.proofs.Common.{[], ◌∷◌}
 use Rattle.plane_base.specs.Plane.{whole}
-use Rattle.tin_check.proofs.CornerShifts.{counted_same, second_meet, through}
+use Rattle.tin_check.proofs.TriangleTests.CornerShifts.{counted_same, second_meet, through}
 use Rattle.tin_check.proofs.triangle_fits.fit_at_side.Goals as goal
 
 pub meet_at_side-requires-clause-u_positive : goal.meet_at_side-requires-clause-u_positive

@@ -2,8 +2,8 @@
 use Rattle.std.proofs.Common.{[], ◌∷◌, arith}
 use Rattle.plane_base.specs.Plane.{whole}
 use Rattle.tin_check.specs.Marks.{points_of, marked_of}
-use Rattle.tin_check.proofs.CornerShifts.{counted_same, first_near, first_meet, through, common_among, corner_among}
-use Rattle.tin_check.proofs.CornerShifts.{side_first_among, side_second_among, fits_by, fits_at_side}
+use Rattle.tin_check.proofs.TriangleTests.CornerShifts.{counted_same, first_near, first_meet, through, common_among, corner_among}
+use Rattle.tin_check.proofs.TriangleTests.CornerShifts.{side_first_among, side_second_among, fits_by, fits_at_side}
 use Rattle.tin_check.proofs.triangle_fits.fits.Goals as goal
 
 pub fit_at_corner-requires-clause-near : goal.fit_at_corner-requires-clause-near

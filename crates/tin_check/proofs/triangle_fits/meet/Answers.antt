@@ -1,7 +1,7 @@
 -- Answers to the goals of `meet` in src/triangle_fits.rt.
 use Rattle.std.proofs.Common.{inl, inr, refl}
-use Rattle.tin_base.proofs.TestAnswers.{yes, denied}
-use Rattle.tin_check.proofs.Tests.{seen_meets, last_side}
+use Rattle.tin_base.proofs.TriangleLemmas.TestAnswers.{yes, denied}
+use Rattle.tin_check.proofs.TriangleTests.Tests.{seen_meets, last_side}
 use Rattle.tin_check.proofs.triangle_fits.meet.Goals as goal
 
 pub returns-then-holds : goal.returns-then-holds

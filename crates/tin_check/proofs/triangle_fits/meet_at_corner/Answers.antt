@@ -1,7 +1,7 @@
 -- Answers to the goals of `meet_at_corner` in src/triangle_fits.rt.
 use Rattle.std.proofs.Common.{refl}
-use Rattle.tin_base.proofs.TestAnswers.{no, denied}
-use Rattle.tin_check.proofs.Tests.{side_beyond, last_beyond}
+use Rattle.tin_base.proofs.TriangleLemmas.TestAnswers.{no, denied}
+use Rattle.tin_check.proofs.TriangleTests.Tests.{side_beyond, last_beyond}
 use Rattle.tin_check.proofs.triangle_fits.meet_at_corner.Goals as goal
 
 pub returns-then-meets_side : goal.returns-then-meets_side

@@ -1,5 +1,5 @@
 -- Answers to the goals of `meet_at_side` in src/triangle_fits.rt.
-use Rattle.tin_check.proofs.Tests.{side_tells}
+use Rattle.tin_check.proofs.TriangleTests.Tests.{side_tells}
 use Rattle.tin_check.proofs.triangle_fits.meet_at_side.Goals as goal
 
 pub returns : goal.returns

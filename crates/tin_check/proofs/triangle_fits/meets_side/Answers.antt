@@ -1,5 +1,5 @@
 -- Answers to the goals of `meets_side` in src/triangle_fits.rt.
-use Rattle.tin_check.proofs.BySlice.{slice_tells}
+use Rattle.tin_check.proofs.TriangleTests.BySlice.{slice_tells}
 use Rattle.tin_check.proofs.triangle_fits.meets_side.Goals as goal
 
 pub returns : goal.returns

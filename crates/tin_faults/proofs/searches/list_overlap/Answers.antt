@@ -1,7 +1,7 @@
 -- Answers to the goals of `list_overlap` in src/searches.rt.
 use Rattle.std.proofs.Common.{arith}
 use Rattle.std.proofs.lemmas.Result.{err_from_is_err_and}
-use Rattle.tin_base.proofs.TestAnswers.{told, denied}
+use Rattle.tin_base.proofs.TriangleLemmas.TestAnswers.{told, denied}
 use Rattle.tin_faults.proofs.Growth.{pair_added, pair_full, pair_fine}
 use Rattle.tin_faults.proofs.searches.list_overlap.Goals as goal
 

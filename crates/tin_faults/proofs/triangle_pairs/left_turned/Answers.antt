@@ -1,6 +1,6 @@
 -- Answers to the goals of `left_turned` in src/triangle_pairs.rt.
 use Rattle.std.proofs.Common.{pos, ◌<ℤ◌, ℤ, ℕ, List, [], get_or, sym, ◌∙◌, ap, subst, arith}
-use Rattle.tin_base.proofs.TestAnswers.{told, denied}
+use Rattle.tin_base.proofs.TriangleLemmas.TestAnswers.{told, denied}
 use Rattle.tin_faults.proofs.Pairs.{left_as_read, left_turned_back}
 use Rattle.tin_faults.proofs.triangle_pairs.left_turned.Goals as goal
 

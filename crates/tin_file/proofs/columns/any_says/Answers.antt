@@ -2,8 +2,8 @@
 use Rattle.std.proofs.Common.{sym, ◌∙◌}
 use Rattle.jtext.specs.Values.{Json, null}
 use Rattle.tin_file.specs.Keys.{says}
-use Rattle.tin_file.proofs.There.{node_within, node_at_place, there_at}
-use Rattle.tin_file.proofs.Loops.{any_on, any_off, any_done}
+use Rattle.tin_file.proofs.DocumentValues.There.{node_within, node_at_place, there_at}
+use Rattle.tin_file.proofs.DocumentValues.Loops.{any_on, any_off, any_done}
 use Rattle.tin_file.proofs.columns.any_says.Goals as goal
 
 pub tells-requires : goal.tells-requires

@@ -1,8 +1,8 @@
 -- Answers to the goals of `are_texts` in src/columns.rt.
 use Rattle.std.proofs.Common.{sym, ◌∙◌}
 use Rattle.tin_file.specs.Keys.{is_text}
-use Rattle.tin_file.proofs.There.{node_within, node_at_place, there_at}
-use Rattle.tin_file.proofs.Loops.{all_on, all_off, all_done}
+use Rattle.tin_file.proofs.DocumentValues.There.{node_within, node_at_place, there_at}
+use Rattle.tin_file.proofs.DocumentValues.Loops.{all_on, all_off, all_done}
 use Rattle.jtext.specs.Values.{null}
 use Rattle.tin_file.proofs.columns.are_texts.Goals as goal
 

@@ -3,8 +3,8 @@ use Rattle.std.proofs.Common.{◌≡◌, ◌++◌, ◌∷◌, true, false, sym, 
 use Rattle.jtext.specs.Values.{null}
 use Rattle.tin_file.specs.Keys.{says}
 use Rattle.tin_file.specs.Headings.{places_of, the_place}
-use Rattle.tin_file.proofs.There.{node_within, node_at_place, there_at}
-use Rattle.tin_file.proofs.Loops.{place_more, place_on, places_done, found_places, the_place_found}
+use Rattle.tin_file.proofs.DocumentValues.There.{node_within, node_at_place, there_at}
+use Rattle.tin_file.proofs.DocumentValues.Loops.{place_more, place_on, places_done, found_places, the_place_found}
 use Rattle.tin_file.proofs.columns.find_place.Goals as goal
 use Rattle.tin_file.proofs.columns.find_place.Goals.{then-tells+in_default, else-tells}
 

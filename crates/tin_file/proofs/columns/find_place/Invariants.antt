@@ -3,7 +3,7 @@ use Rattle.std.proofs.Common.{◌≡◌, ◌++◌, List, drop}
 use Rattle.jtext.specs.Values.{Json}
 use Rattle.tin_file.specs.Headings.{places_of}
 use Rattle.tin_file.specs.InsideNodes.{AreThere}
-use Rattle.tin_file.proofs.Loops.{found_places}
+use Rattle.tin_file.proofs.DocumentValues.Loops.{found_places}
 use Rattle.tin_file.proofs.columns.find_place.Given as goal
 
 abbrev pub invariant-loop-place : goal.invariant-loop-place

@@ -1,8 +1,8 @@
 -- Answers to the goals of `read_vertex_columns` in src/columns.rt.
 use Rattle.std.proofs.Common.{◌∙◌, sym}
 use Rattle.std.specs.Prelude.{codes, length}
-use Rattle.tin_file.proofs.There.{as_many}
-use Rattle.tin_file.proofs.NamedPlaces.{vertex_columns_so, vertex_columns_inside, place_so}
+use Rattle.tin_file.proofs.DocumentValues.There.{as_many}
+use Rattle.tin_file.proofs.FileRows.NamedPlaces.{vertex_columns_so, vertex_columns_inside, place_so}
 use Rattle.tin_file.proofs.columns.read_vertex_columns.Goals as goal
 
 pub returns-clause-columns : goal.returns-clause-columns

@@ -1,7 +1,7 @@
 -- Answers to the goals of `find` in src/elements.rt.
 use Rattle.std.specs.Prelude.{Ok, Err, Some, None}
 use Rattle.tin_file.specs.Keys.{key_of, values_of}
-use Rattle.tin_file.proofs.MemberFinds.{look_finds, found_value, found_no_value, found_two}
+use Rattle.tin_file.proofs.DocumentValues.MemberFinds.{look_finds, found_value, found_no_value, found_two}
 use Rattle.tin_file.proofs.elements.find.Goals as goal
 
 pub returns-in-Ok-Some : goal.returns-in-Ok-Some

@@ -1,8 +1,8 @@
 -- Answers to the goals of `find_list` in src/elements.rt.
 use Rattle.std.proofs.Common.{sym, ◌∙◌}
 use Rattle.tin_file.specs.Keys.{needed_value}
-use Rattle.tin_file.proofs.There.{node_within, members_there}
-use Rattle.tin_file.proofs.MemberFinds.{value_found, array_found, list_found, list_not_found}
+use Rattle.tin_file.proofs.DocumentValues.There.{node_within, members_there}
+use Rattle.tin_file.proofs.DocumentValues.MemberFinds.{value_found, array_found, list_found, list_not_found}
 use Rattle.tin_file.proofs.elements.find_list.Goals as goal
 
 pub holds_array-requires : goal.holds_array-requires

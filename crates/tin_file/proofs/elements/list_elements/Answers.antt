@@ -1,8 +1,8 @@
 -- Answers to the goals of `list_elements` in src/elements.rt.
 use Rattle.std.proofs.Common.{◌+◌, arith}
 use Rattle.tin_file.specs.InsideNodes.{element_numbers}
-use Rattle.tin_file.proofs.There.{node_within}
-use Rattle.tin_file.proofs.Walks.{walk_begins, walk_there, walk_goes_on, walk_ends}
+use Rattle.tin_file.proofs.DocumentValues.There.{node_within}
+use Rattle.tin_file.proofs.DocumentValues.Walks.{walk_begins, walk_there, walk_goes_on, walk_ends}
 use Rattle.tin_file.proofs.elements.list_elements.Goals as goal
 
 pub loop-at-init : goal.loop-at-init

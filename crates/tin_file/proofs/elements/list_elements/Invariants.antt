@@ -2,7 +2,7 @@
 use Rattle.std.proofs.Common.{◌+◌, ◌-◌, List, ℕ}
 use Rattle.jtext.specs.Values.{Elements, array}
 use Rattle.tin_file.specs.InsideNodes.{IsThere, element_numbers}
-use Rattle.tin_file.proofs.Walks.{IsWalked}
+use Rattle.tin_file.proofs.DocumentValues.Walks.{IsWalked}
 use Rattle.tin_file.proofs.elements.list_elements.Given as goal
 
 abbrev pub invariant-loop-at : goal.invariant-loop-at

@@ -1,5 +1,5 @@
 -- Answers to the goals of `tells` in src/elements.rt.
-use Rattle.tin_file.proofs.MemberFinds.{says_is}
+use Rattle.tin_file.proofs.DocumentValues.MemberFinds.{says_is}
 use Rattle.tin_file.proofs.elements.tells.Goals as goal
 
 pub returns : goal.returns

@@ -1,7 +1,7 @@
 -- Answers to the goals of `text_at` in src/elements.rt.
 use Rattle.std.proofs.Common.{◌∙◌}
-use Rattle.tin_file.proofs.There.{node_within}
-use Rattle.tin_file.proofs.SpelledTexts.{text_is, text_begins, text_ends}
+use Rattle.tin_file.proofs.DocumentValues.There.{node_within}
+use Rattle.tin_file.proofs.DocumentValues.SpelledTexts.{text_is, text_begins, text_ends}
 use Rattle.tin_file.proofs.elements.text_at.Goals as goal
 
 pub node_at-node-requires : goal.node_at-node-requires

@@ -4,10 +4,10 @@ use Rattle.tin_file.specs.Keys.{needed_value}
 use Rattle.tin_file.specs.InsideNodes.{IsThere}
 use Rattle.tin_file.specs.declared.faults.Top.TheVariants as tops
 use Rattle.std.proofs.Common.{◌≡◌}
-use Rattle.tin_file.proofs.There.{node_within, members_there}
-use Rattle.tin_file.proofs.MemberFinds.{value_found}
-use Rattle.tin_file.proofs.RowLists.{passed_on}
-use Rattle.tin_file.proofs.Sequels.{equals_is, fault_stays, then_made}
+use Rattle.tin_file.proofs.DocumentValues.There.{node_within, members_there}
+use Rattle.tin_file.proofs.DocumentValues.MemberFinds.{value_found}
+use Rattle.tin_file.proofs.FileRows.RowLists.{passed_on}
+use Rattle.tin_file.proofs.DocumentValues.Sequels.{equals_is, fault_stays, then_made}
 use Rattle.tin_file.proofs.headings.check_file_type.Goals as goal
 
 pub check_file_type_value-requires-clause-node : goal.check_file_type_value-requires-clause-node

@@ -3,8 +3,8 @@ use Rattle.std.proofs.Common.{[], ◌∷◌, ap, ◌∙◌, sym}
 use Rattle.std.specs.Prelude.{Ok, Err, Some, None}
 use Rattle.tin_file.specs.Headings.{strategy, strategy_of}
 use Rattle.tin_file.specs.declared.faults.Top.TheVariants as tops
-use Rattle.tin_file.proofs.There.{there_within, members_there}
-use Rattle.tin_file.proofs.MemberFinds.{look_finds}
+use Rattle.tin_file.proofs.DocumentValues.There.{there_within, members_there}
+use Rattle.tin_file.proofs.DocumentValues.MemberFinds.{look_finds}
 use Rattle.tin_file.proofs.headings.check_strategy.Goals as goal
 
 pub check_strategy_value-requires-clause-node : goal.check_strategy_value-requires-clause-node

@@ -2,7 +2,7 @@
 use Rattle.std.proofs.Common.{◌≡◌, ◌∙◌, true, false}
 use Rattle.std.specs.Prelude.{codes}
 use Rattle.tin_file.specs.Keys.{says}
-use Rattle.tin_file.proofs.Texts.{tells_so, is_side, is_centroid, is_no_strategy}
+use Rattle.tin_file.proofs.DocumentValues.Texts.{tells_so, is_side, is_centroid, is_no_strategy}
 use Rattle.tin_file.proofs.headings.check_strategy_value.Goals as goal
 
 pub returns-then-tells-2 : goal.returns-then-tells-2

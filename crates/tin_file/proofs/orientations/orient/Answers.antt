@@ -1,7 +1,7 @@
 -- Answers to the goals of `orient` in src/orientations.rt.
 use Rattle.std.proofs.Common.{◌≡◌, [], List, ℕ, get_or, set, ap, ◌∙◌, subst, sym}
 use Rattle.tin_file.specs.Corners.{counterclockwise_face}
-use Rattle.tin_file.proofs.ElementChanges.{IsThree, read_so_far, one_changed, face_at}
+use Rattle.tin_file.proofs.FileRows.ElementChanges.{IsThree, read_so_far, one_changed, face_at}
 use Rattle.tin_file.proofs.orientations.orient.Goals as goal
 
 pub orient_one-requires : goal.orient_one-requires

@@ -2,7 +2,7 @@
 use Rattle.std.specs.Prelude.{slice_index_or}
 use Rattle.tin_base.specs.declared.corners.Corner.{Corner}
 use Rattle.tin_base.specs.Triangulation.{no_corner}
-use Rattle.tin_file.proofs.NearCorners.{near_points}
+use Rattle.tin_file.proofs.FileRows.NearCorners.{near_points}
 use Rattle.tin_file.proofs.orientations.orient_one.Goals as goal
 
 pub turn-requires : goal.turn-requires

@@ -6,7 +6,7 @@ use Rattle.std.proofs.lemmas.Int.{to_z-of_z}
 use mir.Syntax.{w64}
 use mir.Val.{to_z}
 use Rattle.tin_file.specs.RowContents.{coordinate_of}
-use Rattle.tin_file.proofs.NumberExtremes.{reach_goes_on, reach_fits, wide_so}
+use Rattle.tin_file.proofs.CallerLemmas.NumberExtremes.{reach_goes_on, reach_fits, wide_so}
 use Rattle.tin_file.proofs.spans.is_too_wide.Goals as goal
 
 pub loop-corner-preserved : goal.loop-corner-preserved

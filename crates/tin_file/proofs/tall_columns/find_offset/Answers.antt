@@ -4,8 +4,8 @@ use Rattle.std.specs.Prelude.{codes}
 use Rattle.std.specs.List.{list_any}
 use Rattle.jtext.specs.Values.{Json}
 use Rattle.tin_file.specs.Keys.{says}
-use Rattle.tin_file.proofs.NamedPlaces.{place_so}
-use Rattle.tin_file.proofs.TallColumnPlaces.{offset_columns_so}
+use Rattle.tin_file.proofs.FileRows.NamedPlaces.{place_so}
+use Rattle.tin_file.proofs.VerticalComponent.TallColumnPlaces.{offset_columns_so}
 use Rattle.tin_file.proofs.tall_columns.find_offset.Goals as goal
 
 pub returns : goal.returns

@@ -1,9 +1,9 @@
 -- Answers to the goals of `read_tall_columns` in src/tall_columns.rt.
 use Rattle.std.proofs.Common.{◌∙◌, sym}
 use Rattle.std.specs.Prelude.{codes, length}
-use Rattle.tin_file.proofs.There.{as_many}
-use Rattle.tin_file.proofs.NamedPlaces.{place_so}
-use Rattle.tin_file.proofs.TallColumnPlaces.{tall_columns_so, tall_columns_inside}
+use Rattle.tin_file.proofs.DocumentValues.There.{as_many}
+use Rattle.tin_file.proofs.FileRows.NamedPlaces.{place_so}
+use Rattle.tin_file.proofs.VerticalComponent.TallColumnPlaces.{tall_columns_so, tall_columns_inside}
 use Rattle.tin_file.proofs.tall_columns.read_tall_columns.Goals as goal
 
 pub returns-clause-columns : goal.returns-clause-columns

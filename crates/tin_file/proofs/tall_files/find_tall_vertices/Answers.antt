@@ -9,10 +9,10 @@ use Rattle.tin_file.specs.InsideNodes.{AreThere, AreNodes, Gives}
 use Rattle.tin_file.specs.InsideTallRows.{AreTallGathered}
 use Rattle.tin_file.specs.declared.faults.Top.TheVariants as tops
 use Rattle.tin_file.specs.declared.faults.Rows.TheVariants as lists
-use Rattle.tin_file.proofs.There.{members_there}
-use Rattle.tin_file.proofs.Sequels.{fault_stays, then_made}
-use Rattle.tin_file.proofs.RowLists.{passed_on}
-use Rattle.tin_file.proofs.FoundRows.{rows_found}
+use Rattle.tin_file.proofs.DocumentValues.There.{members_there}
+use Rattle.tin_file.proofs.DocumentValues.Sequels.{fault_stays, then_made}
+use Rattle.tin_file.proofs.FileRows.RowLists.{passed_on}
+use Rattle.tin_file.proofs.FileRows.FoundRows.{rows_found}
 use Rattle.tin_file.proofs.tall_files.find_tall_vertices.Goals as goal
 
 pub returns-in_err-rows : goal.returns-in_err-rows

@@ -1,9 +1,9 @@
 -- Answers to the goals of `read_tall` in src/tall_files.rt.
 use Rattle.std.proofs.Common.{true}
 use Rattle.tin_file.specs.TallFiles.{tall_reading}
-use Rattle.tin_file.proofs.ValueFaults.{answer_of}
-use Rattle.tin_file.proofs.TallFaults.{good_tall_reading}
-use Rattle.tin_file.proofs.TallOffsets.{ok_each, ok_small}
+use Rattle.tin_file.proofs.FirstFaults.ValueFaults.{answer_of}
+use Rattle.tin_file.proofs.FirstFaults.TallFaults.{good_tall_reading}
+use Rattle.tin_file.proofs.VerticalComponent.TallOffsets.{ok_each, ok_small}
 use Rattle.tin_file.proofs.tall_files.read_tall.Goals as goal
 
 pub returns-in-Ok-clause-answer : goal.returns-in-Ok-clause-answer

@@ -3,11 +3,11 @@ use Rattle.std.proofs.Common.{◌≡◌, sym, ap, ◌∙◌, subst}
 use Rattle.tin_file.specs.TallHeadings.{tall_heading}
 use Rattle.tin_file.specs.TallFiles.{tall_rows_of, tall_reading}
 use Rattle.tin_file.specs.InsideNodes.{Equals}
-use Rattle.tin_file.proofs.There.{there_within}
-use Rattle.tin_file.proofs.Sequels.{fault_stays, then_made}
-use Rattle.tin_file.proofs.RowLists.{passed_on}
-use Rattle.tin_file.proofs.TopValue.{whole_there, object_kind, object_members}
-use Rattle.tin_file.proofs.TallFaults.{is_no_tall_object}
+use Rattle.tin_file.proofs.DocumentValues.There.{there_within}
+use Rattle.tin_file.proofs.DocumentValues.Sequels.{fault_stays, then_made}
+use Rattle.tin_file.proofs.FileRows.RowLists.{passed_on}
+use Rattle.tin_file.proofs.DocumentValues.TopValue.{whole_there, object_kind, object_members}
+use Rattle.tin_file.proofs.FirstFaults.TallFaults.{is_no_tall_object}
 use Rattle.tin_file.proofs.tall_files.read_tall_document.Goals as goal
 
 pub holds_object-requires : goal.holds_object-requires

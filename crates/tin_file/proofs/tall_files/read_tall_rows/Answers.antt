@@ -6,11 +6,11 @@ use Rattle.tin_file.specs.Triangles.{triangles}
 use Rattle.tin_file.specs.TallFiles.{tall_rows_of, tall_within_spans}
 use Rattle.tin_file.specs.RowContents.{face_corners}
 use Rattle.tin_file.specs.InsideTallRows.{AreTallGathered}
-use Rattle.tin_file.proofs.There.{members_there}
-use Rattle.tin_file.proofs.Sequels.{equals_is, fault_stays}
-use Rattle.tin_file.proofs.RowLists.{passed_on}
-use Rattle.tin_file.proofs.RowsRead.{ok_of}
-use Rattle.tin_file.proofs.TallWhole.{tall_numbers_few, tall_complete, tall_rows_so}
+use Rattle.tin_file.proofs.DocumentValues.There.{members_there}
+use Rattle.tin_file.proofs.DocumentValues.Sequels.{equals_is, fault_stays}
+use Rattle.tin_file.proofs.FileRows.RowLists.{passed_on}
+use Rattle.tin_file.proofs.CallerLemmas.RowsRead.{ok_of}
+use Rattle.tin_file.proofs.VerticalComponent.TallWhole.{tall_numbers_few, tall_complete, tall_rows_so}
 use Rattle.tin_file.proofs.tall_files.read_tall_rows.Goals as goal
 
 pub find_triangles-requires-clause-few : goal.find_triangles-requires-clause-few

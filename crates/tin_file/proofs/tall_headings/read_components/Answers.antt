@@ -5,10 +5,10 @@ use Rattle.tin_file.specs.TallHeadings.{tall_components, tall_components_in}
 use Rattle.tin_file.specs.Keys.{needed_list}
 use Rattle.tin_file.specs.InsideNodes.{AreThere, AreNodes}
 use Rattle.tin_file.specs.declared.faults.Top.TheVariants as tops
-use Rattle.tin_file.proofs.There.{members_there}
-use Rattle.tin_file.proofs.MemberFinds.{values_found}
-use Rattle.tin_file.proofs.RowLists.{passed_on}
-use Rattle.tin_file.proofs.Sequels.{equals_is, fault_stays, then_made}
+use Rattle.tin_file.proofs.DocumentValues.There.{members_there}
+use Rattle.tin_file.proofs.DocumentValues.MemberFinds.{values_found}
+use Rattle.tin_file.proofs.FileRows.RowLists.{passed_on}
+use Rattle.tin_file.proofs.DocumentValues.Sequels.{equals_is, fault_stays, then_made}
 use Rattle.tin_file.proofs.tall_headings.read_components.Goals as goal
 
 pub read_components_in-requires-clause-nodes : goal.read_components_in-requires-clause-nodes

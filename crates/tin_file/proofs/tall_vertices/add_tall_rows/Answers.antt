@@ -6,11 +6,11 @@ use Rattle.jtext.specs.Values.{null}
 use Rattle.tin_file.specs.TallVertices.{vertices_in, offsets_of, tall_of, agreeing, tall_rows}
 use Rattle.tin_file.specs.InsideTallRows.{AreTallGathered}
 use Rattle.tin_file.specs.declared.tall_vertices.TallVertex.{TallVertex}
-use Rattle.tin_file.proofs.There.{node_at_place, there_at}
-use Rattle.tin_file.proofs.Loops.{values_on, values_done}
-use Rattle.tin_file.proofs.RowLists.{equals_ok, passes, gives_done}
-use Rattle.tin_file.proofs.RowsRead.{ok_of}
-use Rattle.tin_file.proofs.TallSteps.{AreTallRead, row_refused, row_differs, is_added, row_read, all_read, err_equals}
+use Rattle.tin_file.proofs.DocumentValues.There.{node_at_place, there_at}
+use Rattle.tin_file.proofs.DocumentValues.Loops.{values_on, values_done}
+use Rattle.tin_file.proofs.FileRows.RowLists.{equals_ok, passes, gives_done}
+use Rattle.tin_file.proofs.CallerLemmas.RowsRead.{ok_of}
+use Rattle.tin_file.proofs.VerticalComponent.TallSteps.{AreTallRead, row_refused, row_differs, is_added, row_read, all_read, err_equals}
 use Rattle.tin_file.proofs.tall_vertices.add_tall_rows.Goals as goal
 
 pub read_tall_vertex-requires-clause-node : goal.read_tall_vertex-requires-clause-node

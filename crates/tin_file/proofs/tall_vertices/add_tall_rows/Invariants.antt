@@ -5,7 +5,7 @@ use Rattle.jtext.specs.Values.{Json}
 use Rattle.tin_file.specs.InsideNodes.{AreThere}
 use Rattle.tin_file.specs.TallVertices.{tall_rows}
 use Rattle.tin_file.specs.declared.tall_vertices.TallVertex.{TallVertex}
-use Rattle.tin_file.proofs.TallSteps.{AreTallRead}
+use Rattle.tin_file.proofs.VerticalComponent.TallSteps.{AreTallRead}
 use Rattle.tin_file.proofs.tall_vertices.add_tall_rows.Given as goal
 
 abbrev pub invariant-loop-row : goal.invariant-loop-row

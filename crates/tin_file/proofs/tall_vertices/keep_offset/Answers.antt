@@ -2,7 +2,7 @@
 use Rattle.std.proofs.Common.{rules, ◌≡◌, ◌≤◌, ◌<◌, ℕ, sym, ap, ◌∙◌, length, get_or, to_z, of_z, SFits, arith}
 use Rattle.std.proofs.lemmas.Int.{to_z-of_z}
 use mir.Syntax.{w64}
-use Rattle.tin_file.proofs.TallRows.{new_pushed, number_so, number_inside, offset_there, old_kept, old_other}
+use Rattle.tin_file.proofs.VerticalComponent.TallRows.{new_pushed, number_so, number_inside, offset_there, old_kept, old_other}
 use Rattle.tin_file.proofs.tall_vertices.keep_offset.Goals as goal
 
 pub returns-then-len : goal.returns-then-len

@@ -2,8 +2,8 @@
 use Rattle.std.proofs.Common.{◌<◌, ℕ, length, ◌∙◌, subst, arith}
 use Rattle.jtext.specs.Values.{null}
 use Rattle.tin_file.specs.InsideTallRows.{IsTargetBelow}
-use Rattle.tin_file.proofs.There.{node_at_place, there_at}
-use Rattle.tin_file.proofs.TallElements.{own_corner_so, still_corner_so}
+use Rattle.tin_file.proofs.DocumentValues.There.{node_at_place, there_at}
+use Rattle.tin_file.proofs.VerticalComponent.TallElements.{own_corner_so, still_corner_so}
 use Rattle.tin_file.proofs.tall_vertices.read_corner.Goals as goal
 
 pub read_number-sx-requires : goal.read_number-sx-requires

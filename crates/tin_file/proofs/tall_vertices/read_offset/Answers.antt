@@ -2,9 +2,9 @@
 use Rattle.std.proofs.Common.{length, sym, ◌∙◌, get_or, subst}
 use Rattle.jtext.specs.Values.{null}
 use Rattle.tin_file.specs.InsideTallRows.{IsOffsetBelow}
-use Rattle.tin_file.proofs.There.{node_at_place, there_at}
-use Rattle.tin_file.proofs.RowsRead.{number_reach}
-use Rattle.tin_file.proofs.TallElements.{own_offset_so, height_offset_so}
+use Rattle.tin_file.proofs.DocumentValues.There.{node_at_place, there_at}
+use Rattle.tin_file.proofs.CallerLemmas.RowsRead.{number_reach}
+use Rattle.tin_file.proofs.VerticalComponent.TallElements.{own_offset_so, height_offset_so}
 use Rattle.tin_file.proofs.tall_vertices.read_offset.Goals as goal
 
 pub read_number-own-requires : goal.read_number-own-requires

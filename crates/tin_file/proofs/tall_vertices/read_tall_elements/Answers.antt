@@ -1,8 +1,8 @@
 -- Answers to the goals of `read_tall_elements` in src/tall_vertices.rt.
 use Rattle.std.proofs.Common.{◌∙◌, sym, ap₂}
 use Rattle.tin_file.specs.TallVertices.{tall_from}
-use Rattle.tin_file.proofs.There.{as_many}
-use Rattle.tin_file.proofs.TallElements.{tall_in_so, not_tall_in_so}
+use Rattle.tin_file.proofs.DocumentValues.There.{as_many}
+use Rattle.tin_file.proofs.VerticalComponent.TallElements.{tall_in_so, not_tall_in_so}
 use Rattle.tin_file.proofs.tall_vertices.read_tall_elements.Goals as goal
 
 pub returns-then-values-columns-clause-tall : goal.returns-then-values-columns-clause-tall

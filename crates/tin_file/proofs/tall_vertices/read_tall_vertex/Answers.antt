@@ -2,10 +2,10 @@
 use Rattle.std.proofs.Common.{sym, ◌∙◌, refl, subst}
 use Rattle.tin_file.specs.InsideNodes.{AreThere, AreNodes}
 use Rattle.tin_file.specs.TallVertices.{tall_of, tall_in}
-use Rattle.tin_file.proofs.There.{node_within}
-use Rattle.tin_file.proofs.TallElements.{no_tall_row}
-use Rattle.tin_file.proofs.Sequels.{equals_is}
-use Rattle.tin_file.proofs.RowElements.{is_array_there, nodes_listed, of_elements}
+use Rattle.tin_file.proofs.DocumentValues.There.{node_within}
+use Rattle.tin_file.proofs.VerticalComponent.TallElements.{no_tall_row}
+use Rattle.tin_file.proofs.DocumentValues.Sequels.{equals_is}
+use Rattle.tin_file.proofs.FileRows.RowElements.{is_array_there, nodes_listed, of_elements}
 use Rattle.tin_file.proofs.tall_vertices.read_tall_vertex.Goals as goal
 
 pub holds_array-requires : goal.holds_array-requires

@@ -2,7 +2,7 @@
 use Rattle.std.proofs.Common.{arith}
 use Rattle.tin_file.specs.Keys.{needed_list, and_then}
 use Rattle.tin_file.specs.Vertices.{few}
-use Rattle.tin_file.proofs.FoundRows.{few_pass, too_many, with_rows}
+use Rattle.tin_file.proofs.FileRows.FoundRows.{few_pass, too_many, with_rows}
 use Rattle.tin_file.proofs.tin_files.find_rows.Goals as goal
 
 pub returns-then-len-most-clause-rows : goal.returns-then-len-most-clause-rows

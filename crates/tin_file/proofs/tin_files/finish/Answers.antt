@@ -8,8 +8,8 @@ use Rattle.tin_base.specs.Triangulation.{triangulation}
 use Rattle.tin_base.specs.Limits.{IsWithinLimits}
 use Rattle.tin_file.specs.Corners.{counterclockwise_face, spans}
 use Rattle.tin_file.specs.RowContents.{AreInReach, AreFacesOf}
-use Rattle.tin_file.proofs.CompleteRows.{AreNarrow, narrow, near_all, corners_reach, triangles_faces, limits}
-use Rattle.tin_file.proofs.CompleteRows.{spans_pass}
+use Rattle.tin_file.proofs.CallerLemmas.CompleteRows.{AreNarrow, narrow, near_all, corners_reach, triangles_faces, limits}
+use Rattle.tin_file.proofs.CallerLemmas.CompleteRows.{spans_pass}
 use Rattle.tin_file.proofs.tin_files.finish.Goals as goal
 
 pub check_spans-requires : goal.check_spans-requires

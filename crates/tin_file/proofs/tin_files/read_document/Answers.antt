@@ -3,10 +3,10 @@ use Rattle.std.proofs.Common.{◌≡◌, sym, ap, ◌∙◌, subst}
 use Rattle.tin_file.specs.Headings.{heading}
 use Rattle.tin_file.specs.TinFiles.{rows_of, reading}
 use Rattle.tin_file.specs.InsideNodes.{Equals}
-use Rattle.tin_file.proofs.There.{there_within}
-use Rattle.tin_file.proofs.Sequels.{fault_stays, then_made}
-use Rattle.tin_file.proofs.RowLists.{passed_on}
-use Rattle.tin_file.proofs.TopValue.{whole_there, is_no_object, object_kind, object_members}
+use Rattle.tin_file.proofs.DocumentValues.There.{there_within}
+use Rattle.tin_file.proofs.DocumentValues.Sequels.{fault_stays, then_made}
+use Rattle.tin_file.proofs.FileRows.RowLists.{passed_on}
+use Rattle.tin_file.proofs.DocumentValues.TopValue.{whole_there, is_no_object, object_kind, object_members}
 use Rattle.tin_file.proofs.tin_files.read_document.Goals as goal
 
 pub holds_object-requires : goal.holds_object-requires

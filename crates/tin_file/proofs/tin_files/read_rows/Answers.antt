@@ -5,11 +5,11 @@ use Rattle.tin_file.specs.Vertices.{vertices}
 use Rattle.tin_file.specs.Triangles.{triangles}
 use Rattle.tin_file.specs.TinFiles.{rows_of, within_spans}
 use Rattle.tin_file.specs.RowContents.{AreGathered, face_corners}
-use Rattle.tin_file.proofs.There.{members_there}
-use Rattle.tin_file.proofs.Sequels.{equals_is, fault_stays}
-use Rattle.tin_file.proofs.RowLists.{passed_on}
-use Rattle.tin_file.proofs.RowsRead.{ok_of}
-use Rattle.tin_file.proofs.Whole.{numbers_few, complete, rows_so}
+use Rattle.tin_file.proofs.DocumentValues.There.{members_there}
+use Rattle.tin_file.proofs.DocumentValues.Sequels.{equals_is, fault_stays}
+use Rattle.tin_file.proofs.FileRows.RowLists.{passed_on}
+use Rattle.tin_file.proofs.CallerLemmas.RowsRead.{ok_of}
+use Rattle.tin_file.proofs.CallerLemmas.Whole.{numbers_few, complete, rows_so}
 use Rattle.tin_file.proofs.tin_files.read_rows.Goals as goal
 
 pub find_triangles-requires-clause-few : goal.find_triangles-requires-clause-few

@@ -1,7 +1,7 @@
 -- Answers to the goals of `read_tin` in src/tin_files.rt.
 use Rattle.std.proofs.Common.{false}
 use Rattle.tin_file.specs.TinFiles.{reading}
-use Rattle.tin_file.proofs.ValueFaults.{good_reading, answer_of}
+use Rattle.tin_file.proofs.FirstFaults.ValueFaults.{good_reading, answer_of}
 use Rattle.tin_file.proofs.tin_files.read_tin.Goals as goal
 
 pub returns-in-Ok : goal.returns-in-Ok

@@ -3,8 +3,8 @@ use Rattle.std.proofs.Common.{◌≡◌, ◌<◌, ℕ, length, sym, ap, ◌∙�
 use Rattle.jtext.specs.Values.{null}
 use Rattle.tin_file.specs.Triangles.{row_number_at}
 use Rattle.tin_file.specs.RowContents.{placed_or_fault}
-use Rattle.tin_file.proofs.There.{node_at_place, there_at, as_many}
-use Rattle.tin_file.proofs.NumberRows.{triangle_in_so, not_triangle_in_so}
+use Rattle.tin_file.proofs.DocumentValues.There.{node_at_place, there_at, as_many}
+use Rattle.tin_file.proofs.FileRows.NumberRows.{triangle_in_so, not_triangle_in_so}
 use Rattle.tin_file.proofs.triangles.read_corner_numbers.Goals as goal
 
 pub returns-then-values-columns : goal.returns-then-values-columns

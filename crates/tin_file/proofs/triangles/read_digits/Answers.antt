@@ -2,7 +2,7 @@
 use Rattle.std.proofs.Common.{◌+◌, ◌*◌, sym, ap, ◌∙◌}
 use Rattle.std.specs.Prelude.{min}
 use Rattle.tin_base.specs.declared.limits.TheConstants.{MOST_CORNERS}
-use Rattle.tin_file.proofs.DigitTexts.{digits_on, number_more, number_whole}
+use Rattle.tin_file.proofs.FileRows.DigitTexts.{digits_on, number_more, number_whole}
 use Rattle.tin_file.proofs.triangles.read_digits.Goals as goal
 
 pub loop-byte-preserved : goal.loop-byte-preserved

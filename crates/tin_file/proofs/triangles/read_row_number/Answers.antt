@@ -1,8 +1,8 @@
 -- Answers to the goals of `read_row_number` in src/triangles.rt.
 use Rattle.std.proofs.Common.{sym, ap, ◌∙◌}
 use Rattle.tin_file.specs.RowContents.{at_most}
-use Rattle.tin_file.proofs.There.{node_within}
-use Rattle.tin_file.proofs.NumberRows.{row_number_so, not_row_number_so}
+use Rattle.tin_file.proofs.DocumentValues.There.{node_within}
+use Rattle.tin_file.proofs.FileRows.NumberRows.{row_number_so, not_row_number_so}
 use Rattle.tin_file.proofs.triangles.read_row_number.Goals as goal
 
 pub holds_number-requires : goal.holds_number-requires

@@ -3,9 +3,9 @@ use Rattle.std.proofs.Common.{length, sym, ◌∙◌, refl, subst}
 use Rattle.tin_file.specs.InsideNodes.{AreThere, AreNodes}
 use Rattle.tin_file.specs.Triangles.{triangle_of, triangle_in}
 use Rattle.tin_file.specs.RowContents.{placed_or_fault}
-use Rattle.tin_file.proofs.There.{node_within}
-use Rattle.tin_file.proofs.PlacedRows.{placed_gives}
-use Rattle.tin_file.proofs.RowElements.{is_array_there, nodes_listed, of_elements, no_triangle_row}
+use Rattle.tin_file.proofs.DocumentValues.There.{node_within}
+use Rattle.tin_file.proofs.FileRows.PlacedRows.{placed_gives}
+use Rattle.tin_file.proofs.FileRows.RowElements.{is_array_there, nodes_listed, of_elements, no_triangle_row}
 use Rattle.tin_file.proofs.triangles.read_triangle.Goals as goal
 
 pub holds_array-requires : goal.holds_array-requires

@@ -6,10 +6,10 @@ use Rattle.jtext.specs.Values.{null}
 use Rattle.tin_file.specs.InsideNodes.{Gives}
 use Rattle.tin_file.specs.Triangles.{triangle_of, triangle_rows}
 use Rattle.tin_file.specs.RowContents.{face_corners}
-use Rattle.tin_file.proofs.There.{node_at_place, there_at}
-use Rattle.tin_file.proofs.Loops.{values_on, values_done}
-use Rattle.tin_file.proofs.PlacedRows.{placed_ok, fault_of_face}
-use Rattle.tin_file.proofs.RowLists.{AreRead, passed_on, row_read, row_refused, rows_end}
+use Rattle.tin_file.proofs.DocumentValues.There.{node_at_place, there_at}
+use Rattle.tin_file.proofs.DocumentValues.Loops.{values_on, values_done}
+use Rattle.tin_file.proofs.FileRows.PlacedRows.{placed_ok, fault_of_face}
+use Rattle.tin_file.proofs.FileRows.RowLists.{AreRead, passed_on, row_read, row_refused, rows_end}
 use Rattle.tin_file.proofs.triangles.read_triangles.Goals as goal
 
 pub read_triangle-requires-clause-node : goal.read_triangle-requires-clause-node

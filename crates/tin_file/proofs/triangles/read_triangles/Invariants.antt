@@ -4,7 +4,7 @@ use Rattle.jtext.specs.Values.{Json}
 use Rattle.tin_file.specs.Triangles.{triangle_of, triangle_rows}
 use Rattle.tin_file.specs.InsideNodes.{AreThere}
 use Rattle.tin_file.specs.RowContents.{face_corners}
-use Rattle.tin_file.proofs.RowLists.{AreRead}
+use Rattle.tin_file.proofs.FileRows.RowLists.{AreRead}
 use Rattle.tin_file.proofs.triangles.read_triangles.Given as goal
 
 abbrev pub invariant-loop-triangle : goal.invariant-loop-triangle

@@ -6,7 +6,7 @@ use Rattle.indexmap.specs.IndexSet.{insert_key}
 use Rattle.tin_file.specs.declared.vertices.Vertices.{Vertices}
 use Rattle.tin_file.specs.contracts.vertices.NumbersPartialEq.TheImpl as equality
 use Rattle.std.specs.Prelude.{not}
-use Rattle.tin_file.proofs.RowSteps.{collects}
+use Rattle.tin_file.proofs.FileRows.RowSteps.{collects}
 use Rattle.tin_file.proofs.vertices.add.Goals as goal
 use Rattle.tin_file.proofs.vertices.add.Goals.{then-is_new+in_ok-push-in-Ok, else-is_new}
 

@@ -4,9 +4,9 @@ use Rattle.jtext.specs.Values.{null}
 use Rattle.tin_file.specs.Vertices.{vertex_of, vertex_rows}
 use Rattle.tin_file.specs.RowContents.{AreCollected}
 use Rattle.tin_file.specs.declared.vertices.VertexRow.{VertexRow}
-use Rattle.tin_file.proofs.There.{node_at_place, there_at}
-use Rattle.tin_file.proofs.Loops.{values_on, values_done}
-use Rattle.tin_file.proofs.RowLists.{AreRead, equals_ok, passes, gives_done, row_read, row_refused, rows_end}
+use Rattle.tin_file.proofs.DocumentValues.There.{node_at_place, there_at}
+use Rattle.tin_file.proofs.DocumentValues.Loops.{values_on, values_done}
+use Rattle.tin_file.proofs.FileRows.RowLists.{AreRead, equals_ok, passes, gives_done, row_read, row_refused, rows_end}
 use Rattle.tin_file.proofs.vertices.add_rows.Goals as goal
 
 pub read_vertex-requires-clause-node : goal.read_vertex-requires-clause-node

@@ -6,7 +6,7 @@ use Rattle.tin_file.specs.Vertices.{vertex_of, vertex_rows}
 use Rattle.tin_file.specs.InsideNodes.{AreThere}
 use Rattle.tin_file.specs.RowContents.{AreCollected}
 use Rattle.tin_file.specs.declared.vertices.VertexRow.{VertexRow}
-use Rattle.tin_file.proofs.RowLists.{AreRead}
+use Rattle.tin_file.proofs.FileRows.RowLists.{AreRead}
 use Rattle.tin_file.proofs.vertices.add_rows.Given as goal
 
 abbrev pub invariant-loop-row : goal.invariant-loop-row

@@ -3,7 +3,7 @@ use Rattle.std.proofs.Common.{List}
 use Rattle.tin_file.specs.Vertices.{vertex_rows}
 use Rattle.tin_file.specs.RowContents.{AreCollected, AreGathered}
 use Rattle.tin_file.specs.declared.vertices.VertexRow.{VertexRow}
-use Rattle.tin_file.proofs.RowLists.{gives_weaker}
+use Rattle.tin_file.proofs.FileRows.RowLists.{gives_weaker}
 use Rattle.tin_file.proofs.vertices.gather_rows.Goals as goal
 
 pub returns : goal.returns

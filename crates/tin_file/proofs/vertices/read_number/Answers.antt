@@ -1,8 +1,8 @@
 -- Answers to the goals of `read_number` in src/vertices.rt.
 use Rattle.std.proofs.Common.{sym, ap, ◌∙◌}
 use Rattle.tin_file.specs.Vertices.{number_or_fault}
-use Rattle.tin_file.proofs.There.{node_within}
-use Rattle.tin_file.proofs.NumberRows.{number_so, not_number_so}
+use Rattle.tin_file.proofs.DocumentValues.There.{node_within}
+use Rattle.tin_file.proofs.FileRows.NumberRows.{number_so, not_number_so}
 use Rattle.tin_file.proofs.vertices.read_number.Goals as goal
 
 pub holds_number-requires : goal.holds_number-requires

@@ -2,9 +2,9 @@
 use Rattle.std.proofs.Common.{sym, ◌∙◌, refl, subst}
 use Rattle.tin_file.specs.InsideNodes.{AreThere, AreNodes}
 use Rattle.tin_file.specs.Vertices.{vertex_of, vertex_in}
-use Rattle.tin_file.proofs.There.{node_within}
-use Rattle.tin_file.proofs.Sequels.{equals_is}
-use Rattle.tin_file.proofs.RowElements.{is_array_there, nodes_listed, of_elements, no_vertex_row}
+use Rattle.tin_file.proofs.DocumentValues.There.{node_within}
+use Rattle.tin_file.proofs.DocumentValues.Sequels.{equals_is}
+use Rattle.tin_file.proofs.FileRows.RowElements.{is_array_there, nodes_listed, of_elements, no_vertex_row}
 use Rattle.tin_file.proofs.vertices.read_vertex.Goals as goal
 
 pub holds_array-requires : goal.holds_array-requires

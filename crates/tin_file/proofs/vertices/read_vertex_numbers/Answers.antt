@@ -2,8 +2,8 @@
 use Rattle.std.proofs.Common.{◌≡◌, ◌<◌, ℕ, length, sym, ap, ◌∙◌, arith}
 use Rattle.jtext.specs.Values.{null}
 use Rattle.tin_file.specs.Vertices.{number_at, vertex_from}
-use Rattle.tin_file.proofs.There.{node_at_place, there_at, as_many}
-use Rattle.tin_file.proofs.NumberRows.{vertex_in_so, not_vertex_in_so}
+use Rattle.tin_file.proofs.DocumentValues.There.{node_at_place, there_at, as_many}
+use Rattle.tin_file.proofs.FileRows.NumberRows.{vertex_in_so, not_vertex_in_so}
 use Rattle.tin_file.proofs.vertices.read_vertex_numbers.Goals as goal
 
 pub returns-then-values-columns-clause-vertex : goal.returns-then-values-columns-clause-vertex

@@ -3,7 +3,7 @@ use Rattle.std.proofs.Common.{List}
 use Rattle.tin_file.specs.Vertices.{vertex_rows}
 use Rattle.tin_file.specs.RowContents.{AreGathered}
 use Rattle.tin_file.specs.declared.vertices.VertexRow.{VertexRow}
-use Rattle.tin_file.proofs.RowLists.{gives_same}
+use Rattle.tin_file.proofs.FileRows.RowLists.{gives_same}
 use Rattle.tin_file.proofs.vertices.read_vertices.Goals as goal
 
 pub returns-in-Ok : goal.returns-in-Ok

@@ -1,6 +1,6 @@
 -- Answers to the goals of `has_point` in src/boxes.rt.
 use Rattle.std.proofs.Common.{refl}
-use Rattle.tin_base.proofs.TestAnswers.{no, denied}
+use Rattle.tin_base.proofs.TriangleLemmas.TestAnswers.{no, denied}
 use Rattle.tin_index.proofs.InBox.{not_low, not_high, near_box}
 use Rattle.tin_index.proofs.boxes.has_point.Goals as goal
 

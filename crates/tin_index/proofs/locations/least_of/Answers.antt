@@ -4,7 +4,7 @@ use borrow.Author.Count.{below_more}
 use Rattle.plane_base.specs.Plane.{whole}
 use Rattle.tin_base.specs.declared.frames.Frame.TheVariants.{Source}
 use Rattle.tin_base.specs.Triangulation.{IsInTriangle}
-use Rattle.tin_base.proofs.TestAnswers.{denied}
+use Rattle.tin_base.proofs.TriangleLemmas.TestAnswers.{denied}
 use Rattle.tin_index.proofs.Least.{from_here, not_among}
 use Rattle.tin_index.proofs.locations.least_of.Goals as goal
 

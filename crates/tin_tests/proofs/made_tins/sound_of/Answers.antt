@@ -3,7 +3,7 @@ use Rattle.std.proofs.Common.{pos, ◌<ℤ◌, arith}
 use Rattle.std.proofs.lemmas.Int.{ints}
 use Rattle.tin_base.specs.declared.frames.Frame.TheVariants.{Source, Target}
 use Rattle.tin_base.specs.Soundness.{turn_in}
-use Rattle.tin_base.proofs.Empty.{one_sound}
+use Rattle.tin_base.proofs.TriangleLemmas.Empty.{one_sound}
 use Rattle.tin_tests.proofs.made_tins.sound_of.Goals as goal
 
 pub of-requires : goal.of-requires

@@ -3,7 +3,7 @@ use Rattle.std.proofs.Common.{List, ℕ, subst}
 use Rattle.tin_base.specs.declared.corners.Corner.{Corner}
 use Rattle.tin_base.specs.Triangulation.{triangulation}
 use Rattle.tin_base.specs.Limits.{IsWithinLimits}
-use Rattle.tin_base.proofs.TestAnswers.{told}
+use Rattle.tin_base.proofs.TriangleLemmas.TestAnswers.{told}
 use Rattle.tin_tests.proofs.made_tins.tin_of.Goals as goal
 
 pub of-requires : goal.of-requires

@@ -1,5 +1,5 @@
 -- Answers to the goals of `sliced_in` in src/meet_rel_piece_tests.rt.
-use Rattle.tin_base.proofs.SlicedParts.{slice_told}
+use Rattle.tin_base.proofs.SegmentSpots.SlicedParts.{slice_told}
 use Rattle.tin_tests.proofs.meet_rel_piece_tests.sliced_in.Goals as goal
 
 pub returns-clause-some : goal.returns-clause-some

@@ -1,6 +1,6 @@
 -- The invariant of the loop of `outputs_of` in src/outputs.rt.
 use Rattle.std.proofs.Common.{◌≡◌, map, flat_map, take, string_bytes}
-use Rattle.migrate.specs.Names.{names_in}
+use Rattle.migrate_mode.specs.Names.{names_in}
 use Rattle.tinmove.proofs.outputs.outputs_of.Given as goal
 
 abbrev pub invariant-loop-layer : goal.invariant-loop-layer

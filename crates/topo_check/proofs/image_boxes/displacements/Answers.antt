@@ -4,7 +4,7 @@ use Rattle.plane_base.specs.declared.shapes.Pt.{Pt}
 use Rattle.plane_base.specs.declared.shapes.Rect.{Rect}
 use Rattle.plane_base.specs.declared.shapes.Tri.{Tri}
 use Rattle.plane_base.specs.Boxes.{HasPoint}
-use Rattle.plane_base.proofs.BoxLemmas.{triangle_has}
+use Rattle.plane_base.proofs.Bounds.BoxLemmas.{triangle_has}
 use Rattle.topo_check.proofs.image_boxes.displacements.Goals as goal
 
 pub returns-clause-a : goal.returns-clause-a

@@ -1,7 +1,7 @@
 -- Answers to the goals of `move_box` in src/image_boxes.rt.
 use Rattle.std.proofs.Common.{◌≡◌, ◌+ℤ◌, rules, to_z, of_z}
 use mir.Syntax.{w64}
-use Rattle.plane_base.proofs.BoxLemmas.{same_rect}
+use Rattle.plane_base.proofs.Bounds.BoxLemmas.{same_rect}
 use Rattle.topo_check.specs.InsideImages.{moved_by}
 use Rattle.topo_check.proofs.image_boxes.move_box.Goals as goal
 

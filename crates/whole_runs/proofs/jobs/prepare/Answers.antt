@@ -1,6 +1,6 @@
 -- Answers to the goals of `prepare` in src/jobs.rt.
 use Rattle.std.proofs.Common.{Some}
-use Rattle.migrate.proofs.MakerSteps.{never_read}
+use Rattle.migrate_mode.proofs.MakerSteps.{never_read}
 use Rattle.whole_runs.proofs.JobRefusals.{making_causes}
 use Rattle.whole_runs.proofs.RunEnds.{making_refused}
 use Rattle.whole_runs.proofs.jobs.prepare.Goals as goal

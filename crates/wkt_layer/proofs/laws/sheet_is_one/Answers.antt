@@ -1,5 +1,5 @@
 -- The proof of the law `sheet_is_one` in src/laws.rt.
-use Rattle.wkt_layer.proofs.OneSheet.{sheet_one, sheet_apart}
+use Rattle.wkt_layer.proofs.SheetLaws.OneSheet.{sheet_one, sheet_apart}
 use Rattle.wkt_layer.proofs.laws.sheet_is_one.Goals as goal
 
 pub returns-clause-one : goal.returns-clause-one

@@ -1,5 +1,5 @@
 -- The proof of the law `text_outcome_exists` in src/laws.rt.
-use Rattle.wkt_layer.proofs.SomeOutcome.{outcome_exists}
+use Rattle.wkt_layer.proofs.Faults.SomeOutcome.{outcome_exists}
 use Rattle.wkt_layer.proofs.laws.text_outcome_exists.Goals as goal
 
 pub returns : goal.returns

@@ -1,6 +1,6 @@
 -- Answers to the goals of `first_line` in src/lines.rt.
 use Rattle.std.proofs.Common.{◌+◌}
-use Rattle.wkt_layer.proofs.FirstLines.{one_line, line_before}
+use Rattle.wkt_layer.proofs.CodeReads.FirstLines.{one_line, line_before}
 use Rattle.wkt_layer.proofs.lines.first_line.Goals as goal
 use Rattle.plain_laws.proofs.Lists.{take_rest}
 

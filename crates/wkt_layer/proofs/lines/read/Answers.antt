@@ -4,9 +4,9 @@ use Rattle.std.specs.Prelude.{Some}
 use Rattle.wkt_layer.specs.Layers.{geometry_lines}
 use Rattle.wkt_layer.specs.Paths.{sheet_of}
 use Rattle.wkt_layer.specs.InsidePasses.{GoesOn, RestsAt, lines_behind}
-use Rattle.wkt_layer.proofs.LayerLines.{goes_next, goes_end, held_sheet, held_is_sheet, rests_next, room_more}
-use Rattle.wkt_layer.proofs.LayerLines.{order_next}
-use Rattle.wkt_layer.proofs.LayerLines.{sheet_order}
+use Rattle.wkt_layer.proofs.CodeReads.LayerLines.{goes_next, goes_end, held_sheet, held_is_sheet, rests_next, room_more}
+use Rattle.wkt_layer.proofs.CodeReads.LayerLines.{order_next}
+use Rattle.wkt_layer.proofs.CodeReads.LayerLines.{sheet_order}
 use Rattle.wkt_layer.proofs.lines.read.Goals as goal
 
 pub loop-rest-preserved : goal.loop-rest-preserved

@@ -2,8 +2,8 @@
 use Rattle.std.proofs.Common.{◌≡◌, ◌≤◌, ◌+◌, ◌++◌, [], length, sym, ◌∙◌, subst, append-nil, arith, true, false}
 use Rattle.wkt_layer.specs.InsideStates.{start}
 use Rattle.wkt_layer.specs.InsidePasses.{Held, HasRoom}
-use Rattle.wkt_layer.proofs.TokenReads.{reached_start, reached_end, reached_open, black_tokens}
-use Rattle.wkt_layer.proofs.CodeSteps.{last_points}
+use Rattle.wkt_layer.proofs.CodeReads.TokenReads.{reached_start, reached_end, reached_open, black_tokens}
+use Rattle.wkt_layer.proofs.CodeReads.CodeSteps.{last_points}
 use Rattle.wkt_layer.proofs.lines.read_geometry.Goals as goal
 
 pub loop-at-init : goal.loop-at-init

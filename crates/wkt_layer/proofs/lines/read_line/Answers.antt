@@ -1,7 +1,7 @@
 -- Answers to the goals of `read_line` in src/lines.rt.
 use Rattle.std.proofs.Common.{[], sym, ◌∙◌, subst, append-nil}
 use Rattle.wkt_layer.specs.InsidePasses.{Held}
-use Rattle.wkt_layer.proofs.TokenReads.{blank_line}
+use Rattle.wkt_layer.proofs.CodeReads.TokenReads.{blank_line}
 use Rattle.wkt_layer.proofs.lines.read_line.Goals as goal
 
 pub returns-then-are_blank-clause-reads : goal.returns-then-are_blank-clause-reads

@@ -2,7 +2,7 @@
 use Rattle.std.proofs.Common.{◌≡◌, ◌+◌, ◌-◌, take, drop, length, sym, ap, subst, arith}
 use Rattle.sheet_base.proofs.HandedOn.{passed_on}
 use Rattle.wkt_layer.specs.InsidePasses.{Reads}
-use Rattle.wkt_layer.proofs.TokenReads.{token_reads, token_fails}
+use Rattle.wkt_layer.proofs.CodeReads.TokenReads.{token_reads, token_fails}
 use Rattle.wkt_layer.proofs.lines.read_token.Goals as goal
 use Rattle.plain_laws.proofs.Lists.{take_rest}
 

@@ -6,7 +6,7 @@ use Rattle.wkt_layer.specs.Paths.{path_of}
 use Rattle.wkt_layer.specs.InsidePasses.{Held}
 use Rattle.wkt_layer.specs.Tokens.{Number}
 use Rattle.wkt_layer.specs.InsideStates.{point_with, bare_leads}
-use Rattle.wkt_layer.proofs.CodeSteps.{number_goes, opened_number}
+use Rattle.wkt_layer.proofs.CodeReads.CodeSteps.{number_goes, opened_number}
 use Rattle.wkt_layer.proofs.steps.bare_third.Goals as goal
 
 pub returns-in_ok-end_path-in-Some-clause-goes : goal.returns-in_ok-end_path-in-Some-clause-goes

@@ -1,8 +1,8 @@
 -- Answers to the goals of `behind_item` in src/steps.rt.
 use Rattle.std.proofs.Common.{[], ◌++◌, refl}
 use Rattle.wkt_layer.specs.InsideStates.{state, item, behind}
-use Rattle.wkt_layer.proofs.CodeSteps.{item_goes, close_goes, opened_comma, opened_closing}
-use Rattle.wkt_layer.proofs.SheetSoFar.{held_beside}
+use Rattle.wkt_layer.proofs.CodeReads.CodeSteps.{item_goes, close_goes, opened_comma, opened_closing}
+use Rattle.wkt_layer.proofs.CodeReads.SheetSoFar.{held_beside}
 use Rattle.wkt_layer.proofs.steps.behind_item.Goals as goal
 
 pub returns-in-Some-clause-goes : goal.returns-in-Some-clause-goes

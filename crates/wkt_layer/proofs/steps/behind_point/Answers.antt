@@ -3,7 +3,7 @@ use Rattle.std.proofs.Common.{refl, sym, ◌∙◌, subst, [], ◌∷◌, ◌++�
 use Rattle.wkt_layer.specs.InsideStates.{state, first, behind, kind_of}
 use Rattle.wkt_layer.specs.Paths.{path_of}
 use Rattle.wkt_layer.specs.InsidePasses.{Held}
-use Rattle.wkt_layer.proofs.CodeSteps.{comma_goes, opened_comma, closing_goes, opened_closing}
+use Rattle.wkt_layer.proofs.CodeReads.CodeSteps.{comma_goes, opened_comma, closing_goes, opened_closing}
 use Rattle.wkt_layer.proofs.steps.behind_point.Goals as goal
 
 pub returns-in-List-clause-goes : goal.returns-in-List-clause-goes

@@ -2,7 +2,7 @@
 use Rattle.std.proofs.Common.{◌≡◌, Some, refl, sym, subst}
 use Rattle.wkt_layer.specs.InsideStates.{state, content, enter_step, tagged_step}
 use Rattle.wkt_layer.specs.InsidePasses.{Goes, token_for}
-use Rattle.wkt_layer.proofs.CodeSteps.{tagged_mark, tagged_enters, opened_empty, same_word}
+use Rattle.wkt_layer.proofs.CodeReads.CodeSteps.{tagged_mark, tagged_enters, opened_empty, same_word}
 use Rattle.wkt_layer.proofs.steps.behind_tag.Goals as goal
 
 pub returns-in-Z-clause-goes : goal.returns-in-Z-clause-goes

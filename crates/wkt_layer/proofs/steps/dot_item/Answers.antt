@@ -2,7 +2,7 @@
 use Rattle.std.proofs.Common.{refl, subst}
 use Rattle.wkt_layer.specs.InsideStates.{state, bare_second}
 use Rattle.wkt_layer.specs.InsidePasses.{Goes, token_for}
-use Rattle.wkt_layer.proofs.CodeSteps.{dots_enter, dot_number, opened_number}
+use Rattle.wkt_layer.proofs.CodeReads.CodeSteps.{dots_enter, dot_number, opened_number}
 use Rattle.wkt_layer.proofs.steps.dot_item.Goals as goal
 
 pub returns-in-Some-clause-goes : goal.returns-in-Some-clause-goes

@@ -1,8 +1,8 @@
 -- Answers to the goals of `enter` in src/steps.rt.
 use Rattle.std.proofs.Common.{refl, [], ◌∷◌, ◌++◌}
 use Rattle.wkt_layer.specs.InsideStates.{state, first, item, behind}
-use Rattle.wkt_layer.proofs.CodeSteps.{enter_empty, opened_empty, enter_listing, enter_group, opened_here}
-use Rattle.wkt_layer.proofs.SheetSoFar.{held_beside}
+use Rattle.wkt_layer.proofs.CodeReads.CodeSteps.{enter_empty, opened_empty, enter_listing, enter_group, opened_here}
+use Rattle.wkt_layer.proofs.CodeReads.SheetSoFar.{held_beside}
 use Rattle.wkt_layer.proofs.steps.enter.Goals as goal
 
 pub returns-in-Empty-clause-goes : goal.returns-in-Empty-clause-goes

@@ -1,7 +1,7 @@
 -- Answers to the goals of `first` in src/steps.rt.
 use Rattle.std.proofs.Common.{refl}
 use Rattle.wkt_layer.specs.InsideStates.{state, second}
-use Rattle.wkt_layer.proofs.CodeSteps.{number_goes, opened_number}
+use Rattle.wkt_layer.proofs.CodeReads.CodeSteps.{number_goes, opened_number}
 use Rattle.wkt_layer.proofs.steps.first.Goals as goal
 
 pub returns-in-Some-clause-goes : goal.returns-in-Some-clause-goes

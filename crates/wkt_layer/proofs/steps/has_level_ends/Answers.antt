@@ -2,7 +2,7 @@
 use Rattle.std.proofs.Common.{◌≡◌, ◌-◌, ◌∙◌, length, ap, arith}
 use Rattle.sheet_base.specs.PointHeights.{height_in}
 use Rattle.sheet_base.specs.Rings.{is_same_height}
-use Rattle.wkt_layer.proofs.Sheets.{ends_level}
+use Rattle.wkt_layer.proofs.SheetLaws.Sheets.{ends_level}
 use Rattle.wkt_layer.proofs.steps.has_level_ends.Goals as goal
 
 pub returns : goal.returns

@@ -2,7 +2,7 @@
 use Rattle.std.proofs.Common.{◌≡◌, Some, refl, subst, sym, ◌∙◌}
 use Rattle.wkt_layer.specs.InsideStates.{state, tagged, item_step}
 use Rattle.wkt_layer.specs.InsidePasses.{Goes, token_for}
-use Rattle.wkt_layer.proofs.CodeSteps.{opened_tag}
+use Rattle.wkt_layer.proofs.CodeReads.CodeSteps.{opened_tag}
 use Rattle.wkt_layer.proofs.steps.item.Goals as goal
 
 pub returns-in-Rings-clause-goes : goal.returns-in-Rings-clause-goes

@@ -3,7 +3,7 @@ use Rattle.std.proofs.Common.{◌∷◌, map, sym, ◌∙◌}
 use Rattle.sheet_base.specs.Rings.{is_same_height, is_closed}
 use Rattle.wkt_layer.specs.Numbers.{place_of, height_of}
 use Rattle.wkt_layer.specs.Geometries.{last_behind}
-use Rattle.wkt_layer.proofs.Sheets.{both_hold, one_fails}
+use Rattle.wkt_layer.proofs.SheetLaws.Sheets.{both_hold, one_fails}
 use Rattle.wkt_layer.proofs.steps.may_close.Goals as goal
 
 pub returns-then-is_closed_plane : goal.returns-then-is_closed_plane

@@ -2,7 +2,7 @@
 use Rattle.std.proofs.Common.{◌++◌, subst}
 use Rattle.wkt_layer.specs.InsideStates.{Spot, second, third, bare_second, bare_third, step_at}
 use Rattle.wkt_layer.specs.InsidePasses.{Goes, Held, Shows, points_at, token_for}
-use Rattle.wkt_layer.proofs.CodeSteps.{at_second, at_third, at_bare_second, at_bare_third}
+use Rattle.wkt_layer.proofs.CodeReads.CodeSteps.{at_second, at_third, at_bare_second, at_bare_third}
 use Rattle.wkt_layer.proofs.steps.next.Goals as goal
 
 pub returns-in-Second-clause-goes : goal.returns-in-Second-clause-goes

@@ -3,7 +3,7 @@ use Rattle.std.proofs.Common.{◌≡◌, true, false, refl, sym, ap, ◌∙◌, 
 use Rattle.std.specs.Prelude.{Some, None}
 use Rattle.wkt_layer.specs.Tokens.{Number}
 use Rattle.wkt_layer.specs.InsideStates.{state, third, whole, point_with, is_raised, second_leads}
-use Rattle.wkt_layer.proofs.CodeSteps.{number_goes, opened_number, some_push}
+use Rattle.wkt_layer.proofs.CodeReads.CodeSteps.{number_goes, opened_number, some_push}
 use Rattle.wkt_layer.proofs.steps.second.Goals as goal
 
 pub returns-then-is_raised-clause-goes : goal.returns-then-is_raised-clause-goes

@@ -3,7 +3,7 @@ use Rattle.std.proofs.Common.{refl, ◌∙◌, ◌++◌, ◌∷◌, []}
 use Rattle.std.specs.Prelude.{Some}
 use Rattle.wkt_layer.specs.Tokens.{Number}
 use Rattle.wkt_layer.specs.InsideStates.{state, whole, point_with}
-use Rattle.wkt_layer.proofs.CodeSteps.{number_goes, opened_number, some_push}
+use Rattle.wkt_layer.proofs.CodeReads.CodeSteps.{number_goes, opened_number, some_push}
 use Rattle.wkt_layer.proofs.steps.third.Goals as goal
 
 pub returns-in_ok-add_point-in-Some-clause-goes : goal.returns-in_ok-add_point-in-Some-clause-goes

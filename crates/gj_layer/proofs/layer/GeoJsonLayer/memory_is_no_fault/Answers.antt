@@ -1,5 +1,5 @@
 -- Answers to the goals of `GeoJson::memory_is_no_fault`, a law of the trait `Layer`, in src/layer.rt.
-use Rattle.gj_layer.proofs.MemoryFaults.{no_memory_fault}
+use Rattle.gj_layer.proofs.Outcomes.MemoryFaults.{no_memory_fault}
 use Rattle.gj_layer.proofs.layer.GeoJsonLayer.memory_is_no_fault.Goals as goal
 
 pub returns : goal.returns

@@ -6,8 +6,8 @@ use Rattle.sheet_base.specs.ReadBack.{AreTheSame, IsReadBack}
 use Rattle.sheet_base.proofs.WrittenLayers.{holds_written, rest_written}
 use Rattle.gj_layer.specs.Layers.{IsGeoJsonReadAs}
 use Rattle.gj_layer.specs.Texts.{geojson_edit_text}
-use Rattle.gj_layer.proofs.Documents.{read_in_order}
-use Rattle.gj_layer.proofs.ReadingBack.{reads_back}
+use Rattle.gj_layer.proofs.OpenObjects.Documents.{read_in_order}
+use Rattle.gj_layer.proofs.WrittenValues.ReadingBack.{reads_back}
 use Rattle.gj_layer.proofs.layer.GeoJsonLayer.render.Goals as goal
 
 pub splice-requires : goal.splice-requires

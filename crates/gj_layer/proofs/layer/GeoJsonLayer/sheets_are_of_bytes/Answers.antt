@@ -1,5 +1,5 @@
 -- Answers to the goals of `GeoJson::sheets_are_of_bytes`, a law of the trait `Layer`, in src/layer.rt.
-use Rattle.gj_layer.proofs.ReadingBack.{reads_back}
+use Rattle.gj_layer.proofs.WrittenValues.ReadingBack.{reads_back}
 use Rattle.gj_layer.proofs.layer.GeoJsonLayer.sheets_are_of_bytes.Goals as goal
 
 pub returns-clause-sheets : goal.returns-clause-sheets

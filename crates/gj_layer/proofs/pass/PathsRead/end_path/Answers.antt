@@ -1,7 +1,7 @@
 -- Answers to the goals of `PathsRead::end_path` in src/pass.rt.
 use Rattle.std.proofs.Common.{◌≡◌, ◌++◌, ◌∷◌, [], refl, ap, ◌∙◌, arith, length, vec_len}
 use Rattle.sheet_base.specs.declared.edits.Edit.{Edit}
-use Rattle.gj_layer.proofs.PathsSoFar.{held_end}
+use Rattle.gj_layer.proofs.Coordinates.PathsSoFar.{held_end}
 use Rattle.gj_layer.proofs.pass.PathsRead.end_path.Goals as goal
 
 pub returns-clause-holds : goal.returns-clause-holds

@@ -1,6 +1,6 @@
 -- Answers to the goals of `Rect::common` in src/boxes.rt.
 use Rattle.std.proofs.Common.{rules}
-use Rattle.plane_base.proofs.BoxLemmas.{DoFit, same_rect, lesser_kept, greater_kept}
+use Rattle.plane_base.proofs.Bounds.BoxLemmas.{DoFit, same_rect, lesser_kept, greater_kept}
 use Rattle.plane_base.proofs.shapes.Rect.common.Goals as goal
 
 pub returns : goal.returns

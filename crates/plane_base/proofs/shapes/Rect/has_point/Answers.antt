@@ -3,7 +3,7 @@ use Rattle.std.proofs.Common.{rules}
 use Rattle.std.specs.Prelude.{FitsSigned}
 use Rattle.std.proofs.lemmas.Int.{to_z-of_z}
 use mir.Syntax.{w64}
-use Rattle.plane_base.proofs.BoxLemmas.{point_if, no_point}
+use Rattle.plane_base.proofs.Bounds.BoxLemmas.{point_if, no_point}
 use Rattle.plane_base.proofs.shapes.Rect.has_point.Goals as goal
 
 pub returns-then-not-is_from_to : goal.returns-then-not-is_from_to

@@ -1,6 +1,6 @@
 -- Answers to the goals of `Rect::is_apart_from` in src/boxes.rt.
 use Rattle.std.proofs.Common.{rules}
-use Rattle.plane_base.proofs.BoxLemmas.{DoFit, apart_kept}
+use Rattle.plane_base.proofs.Bounds.BoxLemmas.{DoFit, apart_kept}
 use Rattle.plane_base.proofs.shapes.Rect.is_apart_from.Goals as goal
 
 pub returns : goal.returns

@@ -1,5 +1,5 @@
 -- Answers to the goals of `Rect::shares_a_point` in src/boxes.rt.
-use Rattle.plane_base.proofs.BoxLemmas.{shared_if}
+use Rattle.plane_base.proofs.Bounds.BoxLemmas.{shared_if}
 use Rattle.plane_base.proofs.shapes.Rect.shares_a_point.Goals as goal
 
 pub returns : goal.returns

@@ -1,6 +1,6 @@
 -- Answers to the goals of `Rect::with_box` in src/boxes.rt.
 use Rattle.std.proofs.Common.{rules}
-use Rattle.plane_base.proofs.BoxLemmas.{DoFit, same_rect, lesser_kept, greater_kept}
+use Rattle.plane_base.proofs.Bounds.BoxLemmas.{DoFit, same_rect, lesser_kept, greater_kept}
 use Rattle.plane_base.proofs.shapes.Rect.with_box.Goals as goal
 
 pub returns : goal.returns

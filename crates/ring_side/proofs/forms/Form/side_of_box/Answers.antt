@@ -1,7 +1,7 @@
 -- Answers to the goals of `side_of_box` in src/forms.rt.
 use Rattle.std.proofs.Common.{◌∙◌, ap, arith}
 use Rattle.ring_side.specs.Sides.{side_of}
-use Rattle.ring_side.proofs.BoxSides.{outside_of_box, side_of_corner}
+use Rattle.ring_side.proofs.RingBoxes.BoxSides.{outside_of_box, side_of_corner}
 use Rattle.ring_side.proofs.forms.Form.side_of_box.Goals as goal
 
 pub returns-then-is_apart_from : goal.returns-then-is_apart_from

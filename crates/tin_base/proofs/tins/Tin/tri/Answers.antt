@@ -5,7 +5,7 @@ use Rattle.plane_base.specs.Plane.{Point, whole}
 use Rattle.tin_base.specs.Triangulation.{places, numbers_of}
 use Rattle.tin_base.specs.Soundness.{turn_of_three}
 use Rattle.tin_base.specs.TinFields.{view_of}
-use Rattle.tin_base.proofs.TriangleCorners.{near_reads}
+use Rattle.tin_base.proofs.TriangleLemmas.TriangleCorners.{near_reads}
 use Rattle.tin_base.proofs.tins.Tin.tri.Goals as goal
 
 pub returns-clause-near : goal.returns-clause-near

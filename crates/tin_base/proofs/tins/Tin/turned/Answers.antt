@@ -5,7 +5,7 @@ use Rattle.tin_base.specs.declared.corners.Corner.{Corner}
 use Rattle.tin_base.specs.Triangulation.{triangulation}
 use Rattle.tin_base.specs.Limits.{IsWithinLimits}
 use Rattle.tin_base.specs.TinFields.{view_of}
-use Rattle.tin_base.proofs.FrameExchange.{within_by}
+use Rattle.tin_base.proofs.FrameImages.FrameExchange.{within_by}
 use Rattle.tin_base.proofs.tins.Tin.turned.Goals as goal
 
 pub invariant_of-result : goal.invariant_of-result

@@ -3,7 +3,7 @@ use Rattle.std.proofs.Common.{ℕ, ap, ◌∙◌, subst, arith}
 use Rattle.tin_base.specs.Limits.{IsWithinLimits}
 use Rattle.tin_base.specs.Soundness.{IsSound}
 use Rattle.tin_base.specs.Triangulation.{Triangulation}
-use Rattle.tin_base.proofs.TestAnswers.{told}
+use Rattle.tin_base.proofs.TriangleLemmas.TestAnswers.{told}
 use Rattle.tin_index.specs.Sides.{corner_of}
 use Rattle.tin_index.proofs.Across.{one_across, found_across, none_across}
 use Rattle.tin_index.proofs.indexes.TinIndex.across.Goals as goal

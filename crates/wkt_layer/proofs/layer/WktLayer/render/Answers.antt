@@ -6,8 +6,8 @@ use Rattle.sheet_base.specs.ReadBack.{AreTheSame, IsReadBack}
 use Rattle.sheet_base.proofs.WrittenLayers.{holds_written, rest_written}
 use Rattle.wkt_layer.specs.Layers.{IsWktReadAs}
 use Rattle.wkt_layer.specs.Texts.{wkt_edit_text}
-use Rattle.wkt_layer.proofs.EditOrder.{read_in_order}
-use Rattle.wkt_layer.proofs.ReadingBack.{reads_back}
+use Rattle.wkt_layer.proofs.SheetLaws.EditOrder.{read_in_order}
+use Rattle.wkt_layer.proofs.WrittenLayers.ReadingBack.{reads_back}
 use Rattle.wkt_layer.proofs.layer.WktLayer.render.Goals as goal
 
 pub splice-requires : goal.splice-requires

@@ -1,5 +1,5 @@
 -- Answers to the goals of `Wkt::sheets_are_of_bytes`, a law of the trait `Layer`, in src/layer.rt.
-use Rattle.wkt_layer.proofs.ReadingBack.{reads_back}
+use Rattle.wkt_layer.proofs.WrittenLayers.ReadingBack.{reads_back}
 use Rattle.wkt_layer.proofs.layer.WktLayer.sheets_are_of_bytes.Goals as goal
 
 pub returns-clause-sheets : goal.returns-clause-sheets

@@ -3,7 +3,7 @@ use Rattle.std.proofs.Common.{◌≡◌, refl, ap, ◌∙◌, ◌+◌, ◌++◌,
 use Rattle.std.specs.Prelude.{if◌then◌else◌, Ok}
 use Rattle.wkt_layer.specs.Numbers.{lost_in}
 use Rattle.wkt_layer.specs.InsidePasses.{lost_read}
-use Rattle.wkt_layer.proofs.SheetSoFar.{held_add}
+use Rattle.wkt_layer.proofs.CodeReads.SheetSoFar.{held_add}
 use Rattle.wkt_layer.proofs.pass.LinesRead.add_point.Goals as goal
 
 pub returns-clause-held : goal.returns-clause-held

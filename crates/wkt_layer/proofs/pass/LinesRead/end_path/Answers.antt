@@ -3,7 +3,7 @@ use Rattle.std.proofs.Common.{◌≡◌, refl, ap, ◌∙◌, arith, length, vec
 use Rattle.sheet_base.specs.declared.paths.PathRow.{PathRow}
 use Rattle.sheet_base.specs.declared.edits.Edit.{Edit}
 use Rattle.wkt_layer.specs.Paths.{text_for}
-use Rattle.wkt_layer.proofs.SheetSoFar.{held_end}
+use Rattle.wkt_layer.proofs.CodeReads.SheetSoFar.{held_end}
 use Rattle.wkt_layer.proofs.pass.LinesRead.end_path.Goals as goal
 
 pub returns-clause-held : goal.returns-clause-held

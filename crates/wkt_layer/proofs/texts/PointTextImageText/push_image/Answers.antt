@@ -1,7 +1,7 @@
 -- Answers to the goals of `PointText::push_image`, a call of the trait `ImageText`, in src/texts.rt.
 use Rattle.mm_decimal.specs.MetresTexts.{mm_text}
 use Rattle.wkt_layer.specs.Texts.{height_text}
-use Rattle.wkt_layer.proofs.ImageTexts.{image_pushed}
+use Rattle.wkt_layer.proofs.WrittenLayers.ImageTexts.{image_pushed}
 use Rattle.wkt_layer.proofs.texts.PointTextImageText.push_image.Goals as goal
 
 pub returns : goal.returns

@@ -1,6 +1,0 @@
--- Answers to the goals of `migration_keeps_relations` in src/laws.rt.
-use Rattle.migrate.proofs.KeptMigrations.{migration_keeps_relations}
-use Rattle.migrate.proofs.laws.migration_keeps_relations.Goals as goal
-
-pub returns : goal.returns
-returns c = migration_keeps_relations
