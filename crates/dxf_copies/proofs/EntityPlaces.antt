@@ -28,7 +28,7 @@ use Rattle.dxf_entities.specs.declared.drawing.VertexFields.{VertexFields}
 use Rattle.dxf_entities.specs.Entities.{is_coded, Entity, is_no_head, entity_of, entity_end, past_pairs}
 use Rattle.dxf_entities.specs.Fields.{read_of, coordinate_of, entity_fields}
 use Rattle.dxf_entities.specs.Shapes.{value_edit}
-use Rattle.dxf_entities.specs.Polylines.{is_group_code, past_group, vertex_of, begins_vertex}
+use Rattle.dxf_entities.specs.Polylines.{is_group_code, fault_in_group, past_group, vertex_of, begins_vertex}
 use Rattle.dxf_entities.specs.Polylines.{is_number_pair, vertices_in, vertex_edits}
 use Rattle.dxf_entities.specs.Sections.{is_end_of_section}
 use Rattle.dxf_entities.specs.SectionPlaces.{entities_from}
@@ -100,7 +100,8 @@ ends_at bytes start line past upto (field ∷ fields) (pair ∷ pairs) tiles pro
       by_test : (grouped : Bool) → is_group_code field ≡ grouped → past_group bytes start (field ∷ fields) ≡ Ok upto
           → (past_group bytes pair.end fields ≡ Ok upto → EndsAt pairs upto) → EndsAt (pair ∷ pairs) upto
       by_test true grouped goes_on later =
-          let own : past_group bytes field.end fields ≡ Ok upto = grind (arith, no_fault) in
+          let own : past_group bytes field.end fields ≡ Ok upto =
+          no_fault (fault_in_group bytes field) (past_group bytes field.end fields) upto (rw grouped at goes_on) in
           let rest = later (subst (λ (p : Pair). past_group bytes p.end fields ≡ Ok upto) proper.0 own) in
           record {
             group = pair ∷ rest.group;

@@ -337,7 +337,12 @@ image_ends bytes how pairs past tiles seed shapes is sheet images sheet_is fits 
     let inside : 0 + length (points_of shapes) ≤ length sheet.points = omega (arith, ap length points) in
     let rises = rises_fit sheet images fits [] 0 shapes refl heights inside
     (subst (λ (r : List PathRow). All (HaveCrossingHeights sheet images) r) rows fits.crossing_heights) whole in
-    grind (arith, imaged_points, imaged_heights)
+    record {
+      points = ap (λ (r : List PathRow). ends_of images.points (map (row_of_images images) r)) rows ∙ imaged_points images _
+          good.runs 0 shapes inside whole;
+      heights = ap (λ (r : List PathRow). height_ends_of images.heights (map (row_of_images images) r)) rows ∙ imaged_heights
+          images _ good.runs fits.height_each 0 shapes inside whole rises;
+    }
 
 -- what a drawing's text is read as
 abbrev IsBack : How → Contents → Runs → List ℕ → Type 0

@@ -236,7 +236,9 @@ run_is images count n good inside = grind (arith, first_taken)
 spread_is : (images : Runs) (count n : ℕ) (vertices : List VertexFields) → AreGoodImages images count
     → n + length vertices ≤ count → spread images n vertices ≡ images_of images n (n + length vertices)
 spread_is images count n [] good inside = sym (no_images images n)
-spread_is images count n (vertex ∷ []) good inside = grind (arith, append-nil, run_is)
+spread_is images count n (vertex ∷ []) good inside =
+    ap (λ (more : List Pt). image_of images n ∷ more) (append-nil (crossings_of images n))
+    ∙ run_is images count n good (omega arith)
 spread_is images count n (vertex ∷ second ∷ vertices) good inside =
     let on : n + 1 + length (second ∷ vertices) ≡ n + length (vertex ∷ second ∷ vertices) = omega arith in
     ap (λ (more : List Pt). image_of images n ∷ (crossings_of images n ++ more))

@@ -255,7 +255,17 @@ module _ (read : Reading) (how : How) (seed : Option Pair) (count : ℕ) (follow
 
         by_step : ReadingStep read.bytes how seed kind vertices entity here
             → Goal (imaged_spot read.images first (reading kind vertices)) (reading kind vertices) here
-        by_step (the_end end) = grind (arith, imaged_spot, alone, end_written)
+        by_step (the_end end) =
+            subst (Goal (imaged_spot read.images first (reading kind vertices)) (reading kind vertices))
+            (sym end.here_is)
+            (record {
+              to = alone;
+              near = inl refl;
+              written =
+                  end_written read how seed entity kind vertices count first at.set at.goes_on end.no_vertex end.is_end
+                  good
+                  inside;
+            })
         by_step (one_vertex vertex) =
             let own = went _ (handle seed entity) _ vertex.vertex_is in
             let spot = went _ (spot_at read.bytes how.exact (pos 10) (pos 20) entity) _ own.gives in
