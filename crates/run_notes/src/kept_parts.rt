@@ -7,8 +7,12 @@ use crate::blocks::inserts_in;
 use crate::degrees::front_again;
 use crate::refused_files::bytes_again;
 use job_words::{Format, format_of};
+use memchr::memmem;
 use remarks::{blocks_line, frame_line};
 use std::rt::Files;
+
+/// The kind of entity that inserts a block.
+const INSERT: &[u8] = b"INSERT";
 
 /// What begins the entities of a drawing.
 const ENTITIES: &[u8] = b"\nENTITIES";
@@ -28,23 +32,14 @@ const FEATURES_WITH_PLACES: &[u8] = b"json-fg";
 /// How many bytes of an object of GeoJSON are looked at.
 const BEGINNING: usize = 1 << 22;
 
-/// How often the piece is among the bytes.
-fn piece_count(bytes: &[u8], piece: &[u8]) -> usize {
-    if piece.is_empty() {
-        return 0;
-    }
-    bytes
-        .windows(piece.len())
-        .filter(|window| *window == piece)
-        .count()
+/// Whether the piece is among the bytes.
+fn has_piece(bytes: &[u8], piece: &[u8]) -> bool {
+    memmem::find(bytes, piece).is_some()
 }
 
 /// The bytes from the entities of a drawing on.
 fn entities_of(bytes: &[u8]) -> &[u8] {
-    let Some(at) = bytes
-        .windows(ENTITIES.len())
-        .position(|window| window == ENTITIES)
-    else {
+    let Some(at) = memmem::find(bytes, ENTITIES) else {
         return &[];
     };
     match bytes.get(at..) {
@@ -64,6 +59,9 @@ fn say_frame<R: Eprint + AllocGlobal>(rt: &R, name: &str, mark: &str) {
 fn say_inserts<R: Eprint + AllocGlobal>(rt: &R, name: &str, bytes: &[u8])
     requires { length bytes.now ≤ MOST_BYTES }
 {
+    if !has_piece(bytes, INSERT) {
+        return;
+    }
     let Some(inserts) = inserts_in(rt.alloc(), bytes) else {
         return;
     };
@@ -85,17 +83,17 @@ fn say_drawing<R: Eprint + AllocGlobal>(rt: &R, name: &str, bytes: &[u8])
 {
     say_inserts(rt, name, bytes);
     let entities = entities_of(bytes);
-    if piece_count(entities, GEODATA) > 0 || piece_count(entities, GEODATA_DOS) > 0 {
+    if has_piece(entities, GEODATA) || has_piece(entities, GEODATA_DOS) {
         say_frame(rt, name, "GEODATA");
     }
 }
 
 /// Says of GeoJSON which members of its front name a frame.
 fn say_members<R: Eprint + AllocGlobal>(rt: &R, name: &str, front: &[u8]) {
-    if piece_count(front, FRAME) > 0 {
+    if has_piece(front, FRAME) {
         say_frame(rt, name, "coordRefSys");
     }
-    if piece_count(front, FEATURES_WITH_PLACES) > 0 {
+    if has_piece(front, FEATURES_WITH_PLACES) {
         say_frame(rt, name, "place");
     }
 }
