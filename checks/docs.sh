@@ -17,6 +17,7 @@ run documents.py
 run reading.py --check
 run graph.py --check
 run definitions.py
+run rules.py
 run english.py --comments
 run words.py
 run picture.py --check

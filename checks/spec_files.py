@@ -126,7 +126,7 @@ def clause(place: str) -> set[Definition]:
     text = code_of(file) if file.exists() else ""
     if not re.search(rf"fn {function}\b", text):
         fail(f"{file} has no function {function}, which PROMISES names")
-    contract = re.search(rf"(?ms)fn {function}\b.*?(?:^\s*\{{$|;$)", text)
+    contract = re.search(rf"(?ms)fn {function}\b.*?(?:^\s*\{{\}}?$|;$)", text)
     rows = re.findall(r"(?s)(ensures|requires) ?(\w*) ?\{(.*?)\}\s*(?=ensures|requires|\{|;|$)", contract[0] if contract else "")
     found = {label: text for kind, label, text in rows if kind == "ensures"}
     asked = [text for kind, _, text in rows if kind == "requires"]
