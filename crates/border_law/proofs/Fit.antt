@@ -6,6 +6,7 @@ use Rattle.std.proofs.lemmas.Bool.Decides.{eqb_tells}
 use Rattle.integer_ring.proofs.Ring.{num, neg, ◌⊕◌, ◌⊗◌}
 use Rattle.integer_ring.proofs.Order.{≤_of_<}
 use Rattle.integer_ring.proofs.Claims.{◌≐◌, ◌≺◌, gap, over, eqn, ◌⊞◌, ◌⊠◌, ◌otherwise◌, ◌⇒◌, follows}
+use Rattle.plain_laws.proofs.Order.{opposite}
 use Rattle.plane_base.specs.Plane.{Point, turn_of, IsMix}
 use Rattle.plane_base.proofs.MixLaws.Points.{turn, solve_at}
 use Rattle.plane_base.proofs.MixLaws.Turns.{turn_swap, turn_twice, turn_cycle}
@@ -16,6 +17,7 @@ use Rattle.tin_base.specs.Soundness.{has, common, common_of}
 use Rattle.tin_base.proofs.FrameImages.Weights.{HasAll, common_in_first, common_in_second}
 use Rattle.tin_base.proofs.FrameImages.Alike.{alike_of, alike_in, alike_more}
 use Rattle.border_law.specs.Borders.{IsFrom, Mates, IsBordered, BorderedTrianglesFit, BorderedIsSound}
+use Rattle.border_law.proofs.Signs.{nonneg_zero, not_zero}
 use Rattle.border_law.proofs.Rows.{next_from, Net, MeetsAt, Partner, partner_or, above, turned, row_of, left_of_mix}
 use Rattle.border_law.proofs.Inner.{Large, IsInner, moved, near, near_inner, both, not_both_inner}
 use Rattle.border_law.proofs.PointKinds.{Kind, inside, on_side, at_corner, kind_of, Middle, middle, into, kept_left}
@@ -69,12 +71,6 @@ across : (d x s e z y : ℤ) → pos 0 <ℤ d → pos 0 <ℤ s → pos 0 <ℤ e 
 across = follows 6 (λ d x s e z y. num (pos 0) ≺ d ⇒ num (pos 0) ≺ s ⇒ num (pos 0) ≺ e ⇒ z ≐ num (pos 0)
     ⇒ d ⊗ x ≐ s ⊗ e ⊕ z ⊗ y ⇒ num (pos 0) ≺ x
     otherwise gap 0 ⊠ gap 5 ⊞ over 1 ⊠ gap 2 ⊞ over 2 ⊞ eqn 4 (num (negsuc 0)) ⊞ eqn 3 (neg y)) tt
-
-nonneg_zero : (z : ℤ) → z ≡ pos 0 → pos 0 ≤ℤ z
-nonneg_zero z e = omega (arith, ints)
-
-opposite : (y z : ℤ) → y ≡ neg_ℤ z → y <ℤ pos 0 → pos 0 <ℤ z
-opposite y z e h = omega (arith, ints)
 
 opposite_zero : (y z : ℤ) → y ≡ neg_ℤ z → y ≡ pos 0 → pos 0 ≤ℤ z
 opposite_zero y z e h = omega (arith, ints)
@@ -244,9 +240,6 @@ shared {rows} {at} {n} net t u p differ ht hu hp in_t in_u = go (kind_of net t h
 few : (a b c : ℕ) (us : List ℕ) → (has us a ≡ true → has us b ≡ true → has us c ≡ true → ⊥)
     → length (common (a ∷ b ∷ c ∷ []) us) ≤ 2
 few a b c us not_all = grind arith
-
-not_zero : (z : ℤ) → pos 0 <ℤ z → z ≡ pos 0 → ⊥
-not_zero z h e = absurd (omega (arith, ints))
 
 turned_over : (y z : ℤ) → y ≡ neg_ℤ z → pos 0 <ℤ y → pos 0 <ℤ z → ⊥
 turned_over y z e h k = absurd (omega (arith, ints))

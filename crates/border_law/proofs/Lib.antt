@@ -1,4 +1,5 @@
 -- The files of lemmas of border_law.
+mod Signs
 mod Heights
 mod Descent
 mod Rows

@@ -3,13 +3,14 @@
 use Rattle.std.proofs.Common.{◌≡◌, ◌⊎◌, inl, inr, ℕ, ◌<◌, ℤ, pos, ◌+ℤ◌, ◌*ℤ◌, ◌≤ℤ◌, ◌<ℤ◌, negsuc}
 use Rattle.std.proofs.Common.{List, map, sym, ap, ◌∙◌, subst, arith}
 use Rattle.std.proofs.lemmas.Int.{ints}
-use Rattle.integer_ring.proofs.Ring.{Expr, num, ◌⊕◌, ◌⊖◌, ◌⊗◌}
+use Rattle.integer_ring.proofs.Ring.{num, ◌⊕◌, ◌⊖◌, ◌⊗◌}
 use Rattle.integer_ring.proofs.Order.{nonneg_pos}
 use Rattle.integer_ring.proofs.Signs.{≡_of_mul}
 use Rattle.integer_ring.proofs.Claims.{◌≐◌, ◌≼◌, ◌≺◌, never, gap, over, eqn, ◌⊞◌, ◌⊠◌, ◌because◌, ◌otherwise◌, ◌⇒◌, follows}
 use Rattle.plane_base.specs.Plane.{Point, Same, turn_of, IsMix}
-use Rattle.plane_base.proofs.MixLaws.Points.{PointE, turn, follows_at, solve_at}
+use Rattle.plane_base.proofs.MixLaws.Points.{turn, follows_at, solve_at, three}
 use Rattle.plane_base.proofs.MixLaws.Turns.{turn_split, turn_same, turn_cycle, turn_twice}
+use Rattle.plane_base.proofs.MixLaws.Along.{of_three}
 use Rattle.border_law.specs.Borders.{IsFrom}
 use Rattle.border_law.proofs.Rows.{next_from, Net, above, turned, row_of, AreLeft, left_of_mix}
 use Rattle.border_law.proofs.Inner.{IsInner, moved, turn_moved}
@@ -99,46 +100,30 @@ apart_corners a b c p ha hp d at_a at_b =
     (turn_same c a p b at_b ∙ ap (λ (z : ℤ). p.w *ℤ z) (turn_cycle c a b))
 
 -- ---- points inside a triangle
--- i·a + j·b + k·c
-abbrev pub middle_of : ℤ → ℤ → ℤ → Point → Point → Point → Point
-middle_of i j k a b c = record {
-  x = i *ℤ a.x +ℤ j *ℤ b.x +ℤ k *ℤ c.x;
-  y = i *ℤ a.y +ℤ j *ℤ b.y +ℤ k *ℤ c.y;
-  w = i *ℤ a.w +ℤ j *ℤ b.w +ℤ k *ℤ c.w;
-}
-
--- the weighted sum on expressions
-abbrev middle_at : Expr → Expr → Expr → PointE → PointE → PointE → PointE
-middle_at i j k a b c = record {
-  x = i ⊗ a.x ⊕ j ⊗ b.x ⊕ k ⊗ c.x;
-  y = i ⊗ a.y ⊕ j ⊗ b.y ⊕ k ⊗ c.y;
-  w = i ⊗ a.w ⊕ j ⊗ b.w ⊕ k ⊗ c.w;
-}
-
-turn_middle : (a b c p q : Point) (i j k : ℤ) → turn_of p q (middle_of i j k a b c)
+turn_middle : (a b c p q : Point) (i j k : ℤ) → turn_of p q (of_three i j k a b c)
     ≡ i *ℤ turn_of p q a +ℤ j *ℤ turn_of p q b +ℤ k *ℤ turn_of p q c
-turn_middle = solve_at 5 3 (λ a b c p q i j k. turn p q (middle_at i j k a b c) ≐ i ⊗ turn p q a ⊕ j ⊗ turn p q b ⊕ k ⊗ turn p q c) tt
+turn_middle = solve_at 5 3 (λ a b c p q i j k. turn p q (three i j k a b c) ≐ i ⊗ turn p q a ⊕ j ⊗ turn p q b ⊕ k ⊗ turn p q c) tt
 
 pub three_sum : (i j k x y z : ℤ) → pos 0 <ℤ i → pos 0 <ℤ j → pos 0 <ℤ k → pos 0 <ℤ x → pos 0 <ℤ y → pos 0 <ℤ z
-    → pos 0 <ℤ (i *ℤ x +ℤ j *ℤ y +ℤ k *ℤ z)
+    → pos 0 <ℤ (i *ℤ x +ℤ (j *ℤ y +ℤ (k *ℤ z +ℤ pos 0)))
 three_sum = follows 6 (λ i j k x y z. num (pos 0) ≺ i ⇒ num (pos 0) ≺ j ⇒ num (pos 0) ≺ k ⇒ num (pos 0) ≺ x
-    ⇒ num (pos 0) ≺ y ⇒ num (pos 0) ≺ z ⇒ num (pos 0) ≺ i ⊗ x ⊕ j ⊗ y ⊕ k ⊗ z
+    ⇒ num (pos 0) ≺ y ⇒ num (pos 0) ≺ z ⇒ num (pos 0) ≺ i ⊗ x ⊕ (j ⊗ y ⊕ (k ⊗ z ⊕ num (pos 0)))
     because over 0 ⊠ gap 3 ⊞ over 3 ⊞ gap 1 ⊠ gap 4 ⊞ gap 2 ⊠ gap 5) tt
 
 pub one_side : (a b c : Point) (i j k : ℤ) → pos 0 <ℤ turn_of a b c → pos 0 <ℤ k
-    → pos 0 <ℤ turn_of a b (middle_of i j k a b c)
+    → pos 0 <ℤ turn_of a b (of_three i j k a b c)
 one_side = follows_at 3 3 (λ a b c i j k. num (pos 0) ≺ turn a b c ⇒ num (pos 0) ≺ k ⇒ num (pos 0) ≺ turn a b
-    (middle_at i j k a b c) because over 0 ⊠ gap 1 ⊞ over 1) tt
+    (three i j k a b c) because over 0 ⊠ gap 1 ⊞ over 1) tt
 
 pub second_side : (a b c : Point) (i j k : ℤ) → pos 0 <ℤ turn_of a b c → pos 0 <ℤ i
-    → pos 0 <ℤ turn_of b c (middle_of i j k a b c)
+    → pos 0 <ℤ turn_of b c (of_three i j k a b c)
 second_side = follows_at 3 3 (λ a b c i j k. num (pos 0) ≺ turn a b c ⇒ num (pos 0) ≺ i
-    ⇒ num (pos 0) ≺ turn b c (middle_at i j k a b c) because over 0 ⊠ gap 1 ⊞ over 1) tt
+    ⇒ num (pos 0) ≺ turn b c (three i j k a b c) because over 0 ⊠ gap 1 ⊞ over 1) tt
 
 pub third_side : (a b c : Point) (i j k : ℤ) → pos 0 <ℤ turn_of a b c → pos 0 <ℤ j
-    → pos 0 <ℤ turn_of c a (middle_of i j k a b c)
+    → pos 0 <ℤ turn_of c a (of_three i j k a b c)
 third_side = follows_at 3 3 (λ a b c i j k. num (pos 0) ≺ turn a b c ⇒ num (pos 0) ≺ j
-    ⇒ num (pos 0) ≺ turn c a (middle_at i j k a b c) because over 0 ⊠ gap 1 ⊞ over 1) tt
+    ⇒ num (pos 0) ≺ turn c a (three i j k a b c) because over 0 ⊠ gap 1 ⊞ over 1) tt
 
 -- a point inside the triangle a, b, c, whose turn with another side may be asked for
 pub record Middle (a b c : Point) : Type 0 where
@@ -149,7 +134,7 @@ pub record Middle (a b c : Point) : Type 0 where
 abbrev pub middle : (a b c : Point) (i j k : ℤ) → pos 0 <ℤ a.w → pos 0 <ℤ b.w → pos 0 <ℤ c.w → pos 0 <ℤ turn_of a b c
     → pos 0 <ℤ i → pos 0 <ℤ j → pos 0 <ℤ k → Middle a b c
 middle a b c i j k ha hb hc d hi hj hk = record {
-  point = middle_of i j k a b c;
+  point = of_three i j k a b c;
   w = three_sum i j k a.w b.w c.w hi hj hk ha hb hc;
   inner = record {
     first = one_side a b c i j k d hk;
@@ -197,9 +182,9 @@ zero_side z = grind (arith, ints)
 
 pub beside : (a b c d e f : Point) → pos 0 <ℤ d.w → pos 0 <ℤ e.w → pos 0 <ℤ f.w → pos 0 <ℤ turn_of a b c
     → pos 0 <ℤ turn_of d e f → Beside a b d e f
-beside a b c d e f hd he hf turns other = go (zero_side (turn_of a b (middle_of (pos 1) (pos 1) (pos 1) d e f)))
-    (zero_side (turn_of a b (middle_of (pos 2) (pos 1) (pos 1) d e f)))
-    (zero_side (turn_of a b (middle_of (pos 1) (pos 2) (pos 1) d e f)))
+beside a b c d e f hd he hf turns other = go (zero_side (turn_of a b (of_three (pos 1) (pos 1) (pos 1) d e f)))
+    (zero_side (turn_of a b (of_three (pos 2) (pos 1) (pos 1) d e f)))
+    (zero_side (turn_of a b (of_three (pos 1) (pos 2) (pos 1) d e f)))
   where
     some : (i : ℕ) → 0 < i → pos 0 <ℤ pos i
     some i h = omega (arith, ints)
@@ -221,15 +206,15 @@ beside a b c d e f hd he hf turns other = go (zero_side (turn_of a b (middle_of 
         → (x ≡ pos 0) × (y ≡ pos 0) × (z ≡ pos 0)
     all_zero x y z e f g = (omega (arith, ints), omega (arith, ints), omega (arith, ints))
 
-    go : (turn_of a b (middle_of (pos 1) (pos 1) (pos 1) d e f) ≡ pos 0)
-        ⊎ ((pos 0 <ℤ turn_of a b (middle_of (pos 1) (pos 1) (pos 1) d e f))
-        ⊎ (turn_of a b (middle_of (pos 1) (pos 1) (pos 1) d e f) <ℤ pos 0))
-        → (turn_of a b (middle_of (pos 2) (pos 1) (pos 1) d e f) ≡ pos 0)
-        ⊎ ((pos 0 <ℤ turn_of a b (middle_of (pos 2) (pos 1) (pos 1) d e f))
-        ⊎ (turn_of a b (middle_of (pos 2) (pos 1) (pos 1) d e f) <ℤ pos 0))
-        → (turn_of a b (middle_of (pos 1) (pos 2) (pos 1) d e f) ≡ pos 0)
-        ⊎ ((pos 0 <ℤ turn_of a b (middle_of (pos 1) (pos 2) (pos 1) d e f))
-        ⊎ (turn_of a b (middle_of (pos 1) (pos 2) (pos 1) d e f) <ℤ pos 0)) → Beside a b d e f
+    go : (turn_of a b (of_three (pos 1) (pos 1) (pos 1) d e f) ≡ pos 0)
+        ⊎ ((pos 0 <ℤ turn_of a b (of_three (pos 1) (pos 1) (pos 1) d e f))
+        ⊎ (turn_of a b (of_three (pos 1) (pos 1) (pos 1) d e f) <ℤ pos 0))
+        → (turn_of a b (of_three (pos 2) (pos 1) (pos 1) d e f) ≡ pos 0)
+        ⊎ ((pos 0 <ℤ turn_of a b (of_three (pos 2) (pos 1) (pos 1) d e f))
+        ⊎ (turn_of a b (of_three (pos 2) (pos 1) (pos 1) d e f) <ℤ pos 0))
+        → (turn_of a b (of_three (pos 1) (pos 2) (pos 1) d e f) ≡ pos 0)
+        ⊎ ((pos 0 <ℤ turn_of a b (of_three (pos 1) (pos 2) (pos 1) d e f))
+        ⊎ (turn_of a b (of_three (pos 1) (pos 2) (pos 1) d e f) <ℤ pos 0)) → Beside a b d e f
     go (inr s) y z = record { middle = first; side = s }
     go (inl x) (inr s) z = record { middle = second; side = s }
     go (inl x) (inl y) (inr s) = record { middle = third; side = s }

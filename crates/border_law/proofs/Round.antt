@@ -13,6 +13,7 @@ use Rattle.plane_base.proofs.MixLaws.Turns.{turn_swap, turn_cycle, turn_twice}
 use Rattle.tin_base.specs.Soundness.{has, common}
 use Rattle.tin_base.proofs.FrameImages.Weights.{common_in_first, common_in_second}
 use Rattle.border_law.specs.Borders.{IsFrom}
+use Rattle.border_law.proofs.Signs.{nonneg_zero, not_zero, not_opposite}
 use Rattle.border_law.proofs.Rows.{next_from, shifted, AreShifted, Net, MeetsAt, Partner, partner_or, above, turned}
 use Rattle.border_law.proofs.Descent.{Next, ends}
 use Rattle.border_law.proofs.Spots.{one_place}
@@ -43,17 +44,8 @@ turn_end = solve_at 2 0 (λ a b. turn a b b ≐ num (pos 0)) tt
 positive : (y z : ℤ) → y ≡ z → pos 0 <ℤ y → pos 0 <ℤ z
 positive y z e h = subst (λ (k : ℤ). pos 0 <ℤ k) e h
 
-nonneg_zero : (z : ℤ) → z ≡ pos 0 → pos 0 ≤ℤ z
-nonneg_zero z e = omega (arith, ints)
-
 nonneg_opposite : (y z : ℤ) → y ≡ neg_ℤ z → z ≤ℤ pos 0 → pos 0 ≤ℤ y
 nonneg_opposite y z e h = omega (arith, ints)
-
-not_zero : (z : ℤ) → pos 0 <ℤ z → z ≡ pos 0 → ⊥
-not_zero z h e = absurd (omega (arith, ints))
-
-not_opposite : (y z : ℤ) → y ≡ neg_ℤ z → pos 0 <ℤ y → pos 0 ≤ℤ z → ⊥
-not_opposite y z e h k = absurd (omega (arith, ints))
 
 -- ---- two angles at one corner with a common direction have a common inner point
 record Common (o x y e f : Point) : Type 0 where

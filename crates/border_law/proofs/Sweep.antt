@@ -7,11 +7,13 @@ use Rattle.integer_ring.proofs.Ring.{num, neg, ◌⊕◌, ◌⊖◌, ◌⊗◌}
 use Rattle.integer_ring.proofs.Order.{≤_of_<}
 use Rattle.integer_ring.proofs.Signs.{zero_cases}
 use Rattle.integer_ring.proofs.Claims.{◌≐◌, ◌≼◌, ◌≺◌, gap, over, eqn, ◌⊞◌, ◌⊠◌, ◌because◌, ◌otherwise◌, ◌⇒◌, follows}
+use Rattle.plain_laws.proofs.Order.{opposite}
 use Rattle.plane_base.specs.Plane.{Point, Same, turn_of, IsMix}
 use Rattle.plane_base.proofs.MixLaws.Turns.{turn_swap}
 use Rattle.plane_base.proofs.TriangleLaws.CommonPoints.{mix_of_side}
 use Rattle.tin_base.specs.Soundness.{common}
 use Rattle.border_law.specs.Borders.{IsFrom}
+use Rattle.border_law.proofs.Signs.{nonneg_zero, not_zero, not_opposite}
 use Rattle.border_law.proofs.Heights.{above_of, meeting_of, rise_of, GoesUp, meeting-w, rise_positive, above_meeting}
 use Rattle.border_law.proofs.Heights.{on_side, after_side, before_side, exchanged, one_line, further, partner_first}
 use Rattle.border_law.proofs.Heights.{partner_last}
@@ -27,20 +29,8 @@ sign_or z = grind (arith, ints)
 not_below : (z : ℤ) → z <ℤ pos 0 → pos 0 <ℤ z → ⊥
 not_below z h k = absurd (omega (arith, ints))
 
-not_zero : (z : ℤ) → pos 0 <ℤ z → z ≡ pos 0 → ⊥
-not_zero z h e = absurd (omega (arith, ints))
-
-nonneg_zero : (z : ℤ) → z ≡ pos 0 → pos 0 ≤ℤ z
-nonneg_zero z e = omega (arith, ints)
-
-opposite : (y z : ℤ) → y ≡ neg_ℤ z → y <ℤ pos 0 → pos 0 <ℤ z
-opposite y z e h = omega (arith, ints)
-
 opposite_zero : (y z : ℤ) → y ≡ neg_ℤ z → y ≡ pos 0 → z ≡ pos 0
 opposite_zero y z e h = omega (arith, ints)
-
-not_both : (y z : ℤ) → y ≡ neg_ℤ z → pos 0 <ℤ y → pos 0 ≤ℤ z → ⊥
-not_both y z e h k = absurd (omega (arith, ints))
 
 negative : (z : ℤ) → z <ℤ pos 0 → pos 0 <ℤ neg_ℤ z
 negative z h = omega (arith, ints)
@@ -372,7 +362,7 @@ module _ {rows : ℕ → List ℕ} {at : ℕ → Point} {n : ℕ} {z : Point} (n
       another : (p : Partner rows net.mate n d.i a b) → p.number ≢ d.j
       another p e =
           let from : IsFrom (rows d.j) b a p.third = subst (λ (k : ℕ). IsFrom (rows k) b a p.third) e p.from in
-          not_both (turn_of (at a) (at b) z) (turn_of (at b) (at a) z) (turn_swap (at a) (at b) z) d.first.left
+          not_opposite (turn_of (at a) (at b) z) (turn_of (at b) (at a) z) (turn_swap (at a) (at b) z) d.first.left
           (left_of_mix net d.j b a p.third d.j_below from z d.w inside).0
 
       go : Partner rows net.mate n d.i a b ⊎ ((u : ℕ) → d.i ≢ u → u < n → MeetsAt rows at a b u) → After rows at n z

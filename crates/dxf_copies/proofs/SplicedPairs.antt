@@ -18,6 +18,7 @@ use Rattle.dxf_pairs.specs.Groups.{Group, groups_of, group_in, first_group, valu
 use Rattle.dxf_pairs.specs.Laws.{AreTiles}
 use Rattle.dxf_pairs.specs.InLines.{IsValue, StandsInLines, EndsDrawing, AreInLines, GroupsFollow}
 use Rattle.dxf_pairs.specs.Pairs.{ends_drawing}
+use Rattle.dxf_pairs.proofs.PairTiles.{tiles_upto}
 use Rattle.dxf_entities.specs.Entities.{is_coded, Entity, entity_end, entity_of}
 use Rattle.dxf_entities.specs.Fields.{entity_fields}
 use Rattle.dxf_entities.specs.Polylines.{is_group_code}
@@ -350,11 +351,6 @@ behind_pair : (read : Reading) (line past place size : ℕ) (pair : Pair) (pairs
 behind_pair read line past place size pair pairs [] feed tiles behind upto order inside stand = inside
 behind_pair read line past place size pair pairs (edit ∷ edits) feed tiles behind upto order inside stand =
     grind (arith, starts_behind)
-
-tiles_upto : (start line past : ℕ) (pairs : List Pair) → AreTiles start line pairs past → start ≤ past
-tiles_upto start line past [] tiles = omega (arith, tiles)
-tiles_upto start line past (pair ∷ pairs) tiles =
-    omega (arith, tiles.0, tiles.2, tiles.3, tiles.4, tiles_upto pair.end (line + 2) past pairs tiles.5)
 
 -- the pairs are spliced so, for fewer pairs and edits
 abbrev pub AreSplicedBelow : ℕ → Reading → ℕ → ℕ → Type 0

@@ -6,6 +6,7 @@ use Rattle.std.specs.List.{list_any, list_all}
 use Rattle.std.proofs.lemmas.List.Sums.{take_while-cons}
 use Rattle.std.specs.Prelude.{◌&&◌, not, int_lt, if◌then◌else◌, ◌||◌}
 use Rattle.std.specs.Ordering.{int_eq}
+use Rattle.std.proofs.lemmas.List.{length-map}
 use Rattle.mm_decimal.specs.AnswerValues.{millimetres_of}
 use Rattle.mm_decimal.specs.declared.numerals.MmRead.{MmRead}
 use Rattle.mm_decimal.specs.declared.numerals.NumFault.{NumFault}
@@ -682,10 +683,6 @@ light_from exact fields kind = next (light_with fields kind) (points_in exact fi
 abbrev pub light_outlines : Bool → List Group → Option (List Outline)
 light_outlines exact fields = next (light_from exact fields) (kind_in fields)
 
-pub length_mapped : {A B : Type 0} (f : A → B) (items : List A) → length (map f items) ≡ length items
-length_mapped f [] = refl
-length_mapped f (item ∷ items) = ap suc (length_mapped f items)
-
 light_is : (bytes : List ℕ) (entity : Entity) (kind : PathKind) (vertices : List VertexFields)
     → told outlines (and_then (λ (count : Pair). Ok (light_shape kind vertices count ∷ []))
     (count_of bytes (length vertices) entity)) ≡ light_with (groups_in bytes entity) kind (spots_of vertices)
@@ -694,7 +691,7 @@ light_is bytes entity kind vertices =
     chain no_pair outlines _ _ (count_of bytes (length vertices) entity) _ (count_told bytes _ entity) (λ count. refl) ∙
     (ap (λ (k : Option PathKind). next (λ (count : Unit {0}). Some (flat_outline k (spots_of vertices) ∷ [])) (count_in
     (length vertices) fields)) (kind_with_told kind vertices) ∙ ap (λ (n : ℕ). next (λ (count : Unit {0}). Some
-    (light_outline kind (spots_of vertices) ∷ [])) (count_in n fields)) (sym (length_mapped _ vertices)))
+    (light_outline kind (spots_of vertices) ∷ [])) (count_in n fields)) (sym (length-map vertices _)))
 
 lights_told : (bytes : List ℕ) (exact : Bool) (entity : Entity)
     → told outlines (light_shapes bytes exact entity) ≡ light_outlines exact (groups_in bytes entity)

@@ -1,5 +1,6 @@
 -- The files of lemmas of dxf_pairs.
 mod PairSteps
+pub mod PairTiles
 mod LinePlaces
 pub mod Between
 mod LineLists

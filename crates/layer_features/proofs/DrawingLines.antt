@@ -7,6 +7,7 @@ use Rattle.dxf_pairs.specs.declared.pairs.Pair.{Pair}
 use Rattle.dxf_pairs.specs.declared.faults.PairFault.{PairFault}
 use Rattle.dxf_pairs.specs.Groups.{value_in}
 use Rattle.dxf_pairs.specs.Laws.{AreTiles, Tile}
+use Rattle.dxf_pairs.proofs.PairTiles.{tiles_upto}
 use Rattle.dxf_entities.specs.Entities.{entity_of}
 use Rattle.dxf_entities.specs.Fields.{field_at}
 use Rattle.layer_features.specs.declared.features.Feature.{Feature}
@@ -18,11 +19,6 @@ use Rattle.layer_features.specs.Laws.{IsHexadecimalLabel, HasValueParts, Drawing
 use Rattle.layer_features.proofs.Elements.{lower}
 
 -- ---- lines
-tiles_past : (start line past : ℕ) (pairs : List Pair) → AreTiles start line pairs past → start ≤ past
-tiles_past start line past [] tile = omega (arith, tile)
-tiles_past start line past (pair ∷ pairs) (from, number, first, second, third, tile) =
-    let later = tiles_past pair.end (line + 2) past pairs tile in omega (arith, first, second, third, later)
-
 -- lines have two of their numbers for each byte at most
 abbrev HasRoom : ℕ → ℕ → ℕ → Type 0
 HasRoom start line past = line + 2 * (past - start) ≤ 2 ^ 32 - 1
@@ -30,7 +26,7 @@ HasRoom start line past = line + 2 * (past - start) ≤ 2 ^ 32 - 1
 more_room : (start line past : ℕ) (pair : Pair) (pairs : List Pair) → AreTiles start line (pair ∷ pairs) past
     → HasRoom start line past → HasRoom pair.end (line + 2) past
 more_room start line past pair pairs (from, number, first, second, third, tile) room =
-    let later = tiles_past pair.end (line + 2) past pairs tile in omega (arith, first, second, third, later, room)
+    let later = tiles_upto pair.end (line + 2) past pairs tile in omega (arith, first, second, third, later, room)
 
 either_least : (test : Bool) (least one other : ℕ) → least ≤ one → least ≤ other → least ≤ (if test then one else other)
 either_least true least one other is are = is

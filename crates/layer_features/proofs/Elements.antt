@@ -11,7 +11,8 @@ use Rattle.jtext.specs.Places.{Entry, HasNodesAt, IsReadFrom}
 use Rattle.jtext.specs.declared.document.Doc.{Doc}
 use Rattle.jtext.specs.declared.document.Node.{Node}
 use Rattle.jtext.specs.declared.document.Kind.TheVariants as kinds
-use Rattle.jtext.proofs.CallerLemmas.NodePlaces.{ElementsStand, array_stands, element_stands, rest_stands, node_count_positive}
+use Rattle.jtext.proofs.CallerLemmas.NodePlaces.{ElementsStand, array_stands, element_stands, rest_stands, node_count_positive, value_at}
+use Rattle.jtext.proofs.CallerLemmas.MemberLoops.{array_of}
 use Rattle.layer_features.specs.declared.features.Feature.{Feature}
 use Rattle.layer_features.specs.declared.features.TextPart.{TextPart}
 use Rattle.layer_features.specs.declared.features.Label.TheVariants.{Number}
@@ -19,13 +20,7 @@ use Rattle.layer_features.specs.Features.{AreInOrder}
 use Rattle.layer_features.specs.InsideNodes.{IsFoundAs}
 use Rattle.layer_features.specs.JsonFeatures.{property_of, name_of, part_of}
 use Rattle.layer_features.specs.JsonFeatures.{says, member_of, feature_of, features_from, array_features, features_in, value_features}
-use Rattle.layer_features.proofs.Found.{first_is, kind_is, value_at, within_nodes}
-
-pub array_of : (value : Json) → kind_of value ≡ kinds.Array
-    → (blank : List ℕ) × (elements : Elements) × (value ≡ array blank elements)
-array_of (array blank elements) is = (blank, elements, refl)
-array_of (truth true) is = cc
-array_of _ is = cc
+use Rattle.layer_features.proofs.Found.{first_is, kind_is, within_nodes}
 
 pub not_array : (name : Option (List ℕ)) (number start : ℕ) (value : Json) → (kind_of value ≡ kinds.Array → ⊥)
     → array_features name number start value ≡ []

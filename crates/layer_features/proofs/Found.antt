@@ -13,15 +13,10 @@ use Rattle.jtext.specs.declared.document.Node.{Node}
 use Rattle.jtext.specs.declared.document.Kind.TheVariants as kinds
 use Rattle.jtext.specs.declared.lookup.Repeat.{Repeat}
 use Rattle.jtext.proofs.CallerLemmas.NodePlaces.{MembersStand, object_stands, member_stands, members_rest_stand, first_there}
-use Rattle.jtext.proofs.CallerLemmas.NodePlaces.{node_stands, reading_stands}
+use Rattle.jtext.proofs.CallerLemmas.NodePlaces.{reading_stands}
 use Rattle.jtext.proofs.CallerLemmas.SameTexts.{says_quoted}
 use Rattle.layer_features.specs.JsonFeatures.{only, member_of, is_saying}
 use Rattle.layer_features.specs.InsideNodes.{IsFoundAs}
-
--- a value is at each node
-pub value_at : (doc : Doc) (bytes : List ℕ) (number : ℕ) → IsReadFrom doc bytes → number < length doc.nodes
-    → (start : ℕ) × (value : Json) × HasNodesAt doc.nodes bytes number start value
-value_at doc bytes number (whole, r) below = node_stands whole doc bytes r number below
 
 pub not_object : (name : List ℕ) (number start : ℕ) (value : Json) → (kind_of value ≡ kinds.Object → ⊥)
     → member_of name number start value ≡ None

@@ -10,7 +10,7 @@ use Rattle.plane_base.specs.Plane.{Point, Same, turn_of, weighted_sum, IsMix, wh
 use Rattle.plane_base.specs.declared.shapes.Pt.{Pt}
 use Rattle.plane_base.specs.declared.shapes.Tri.{Tri}
 use Rattle.plane_base.proofs.MixLaws.Turns.{turn_cycle, turn_swap}
-use Rattle.plane_base.proofs.MixLaws.Mixes.{same_sym, same_moved, mixed, Between, between_weights, mix_swapped}
+use Rattle.plane_base.proofs.MixLaws.Mixes.{same_sym, same_moved, mixed, Between, between_weights, mix_swapped, turn_between}
 use Rattle.plane_base.proofs.TriangleLaws.InTriangle.{turns_of_mix}
 use Rattle.plane_base.proofs.TriangleLaws.CommonPoints.{mix_of_side}
 use Rattle.tin_base.specs.declared.relations.Rel.{Rel}
@@ -18,7 +18,7 @@ use Rattle.tin_base.specs.declared.relations.Rel.TheVariants.{Touching, Crossing
 use Rattle.tin_base.specs.Relations.{IsCommonPoint, IsOnlyCommonPoint, IsAnEnd, HaveRelation}
 use Rattle.meet_rel.specs.declared.clips.Clip.{Clip}
 use Rattle.meet_rel.specs.Clips.{IsOf, AreEnds, IsProper, IsSideFrom}
-use Rattle.meet_rel.proofs.Scale.{line_moved, turn_between, mix_first, mix_last}
+use Rattle.meet_rel.proofs.Scale.{line_moved, mix_first, mix_last}
 use Rattle.plain_laws.proofs.Weights.{no_third, no_first, no_second}
 
 one : pos 0 <ℤ pos 1

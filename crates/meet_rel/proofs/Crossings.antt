@@ -10,12 +10,12 @@ use lib.Signed.{lt_z_yes}
 use Rattle.plane_base.specs.Plane.{Point, Same, turn_of, IsMix, whole}
 use Rattle.plane_base.specs.declared.shapes.Pt.{Pt}
 use Rattle.plane_base.proofs.MixLaws.Points.{turn, solve_at}
-use Rattle.plane_base.proofs.MixLaws.Mixes.{same_refl, same_sym, mixed, Between, between_weights, weights_between, between-w}
+use Rattle.plane_base.proofs.MixLaws.Mixes.{same_refl, same_sym, mixed, Between, between_weights, weights_between, between-w, turn_between}
 use Rattle.plane_base.proofs.MixLaws.Mixes.{mix_moved, turn_on_side}
 use Rattle.tin_base.specs.declared.relations.Rel.TheVariants.{Apart, Touching, Crossing}
 use Rattle.tin_base.specs.Relations.{IsCommonPoint, IsAnEnd, HaveRelation}
 use Rattle.meet_rel.specs.Signs.{AreOnOneSide, IsSomeZero}
-use Rattle.meet_rel.proofs.Scale.{line_moved, turn_between}
+use Rattle.meet_rel.proofs.Scale.{line_moved}
 use Rattle.plain_laws.proofs.Weights.{two_positive}
 
 one : pos 0 <ℤ pos 1

@@ -10,9 +10,9 @@ use Rattle.integer_ring.proofs.Claims.{◌≐◌, ◌≼◌, ◌≺◌, gap, ove
 use Rattle.integer_ring.proofs.Claims.{solve}
 use Rattle.plane_base.specs.Plane.{Point, Same, turn_of, IsMix, whole}
 use Rattle.plane_base.specs.declared.shapes.Pt.{Pt}
-use Rattle.plane_base.proofs.MixLaws.Points.{turn, plus, nothing, solve_at}
+use Rattle.plane_base.proofs.MixLaws.Points.{turn}
 use Rattle.plane_base.proofs.MixLaws.Turns.{turn_same}
-use Rattle.plane_base.proofs.MixLaws.Mixes.{mixed, Between, between_weights, weights_between, between-w, same_refl, mix_moved}
+use Rattle.plane_base.proofs.MixLaws.Mixes.{mixed, Between, between_weights, weights_between, between-w, same_refl, mix_moved, turn_between}
 use Rattle.plane_base.proofs.MixLaws.Mixes.{mix_swapped}
 use Rattle.plain_laws.proofs.Weights.{zero_mix, zero_factor}
 
@@ -130,11 +130,6 @@ level_same s p q hp hq l =
     )
 
 -- ---- the points between two points of the line
-
-pub turn_between : (a b p q : Point) (k l : ℕ)
-    → turn_of a b (mixed k l p q) ≡ pos k *ℤ turn_of a b p +ℤ pos l *ℤ turn_of a b q
-turn_between a b p q k l = solve_at 4 2 (λ a b p q k l. turn a b (plus k p (plus l q nothing)) ≐ k ⊗ turn a b p ⊕ l
-    ⊗ turn a b q) tt a b p q (pos k) (pos l)
 
 -- a point in the place of one of a line is of the line
 pub line_moved : (a b p q : Point) → pos 0 <ℤ q.w → Same p q → turn_of a b q ≡ pos 0 → turn_of a b p ≡ pos 0

@@ -10,7 +10,7 @@ use Rattle.std.proofs.lemmas.List.{take-append-drop, drop_all, length-take-le, l
 use Rattle.std.proofs.lemmas.List.Elements.{recursion_from_All}
 use Rattle.plane_base.specs.declared.shapes.Pt.{Pt}
 use Rattle.sheet_base.specs.declared.paths.PathKind.{PathKind}
-use Rattle.sheet_base.specs.declared.paths.PathKind.TheVariants.{Dot}
+use Rattle.sheet_base.specs.declared.paths.PathKind.TheVariants.{Dot, Line, Loop}
 use Rattle.sheet_base.specs.declared.paths.PathRow.{PathRow}
 use Rattle.sheet_base.specs.PointHeights.{Height, Position, height_in, points_with_heights, heights_of}
 use Rattle.sheet_base.specs.PointHeights.{IsHeightWithinReach}
@@ -21,6 +21,12 @@ use Rattle.sheet_base.specs.ImageFits.{HaveCrossingHeights, IsWithinReach, DoFit
 use Rattle.sheet_base.specs.ReadBack.{row_of_images}
 use Rattle.sheet_base.proofs.ListParts.{drop_twice, all_parts}
 use Rattle.sheet_base.proofs.ImageRuns.{last_end, spread, ends_within}
+
+-- what holds of a path of each kind
+pub by_kind : (P : PathKind → Type 0) → P Dot → P Line → P Loop → (kind : PathKind) → P kind
+by_kind P dot line loop Dot = dot
+by_kind P dot line loop Line = line
+by_kind P dot line loop Loop = loop
 
 -- what a sheet keeps of a path
 pub record Drawn : Type 0 where

@@ -1,12 +1,12 @@
 -- Texts that are shown: they are short, plain, and the text itself where this is short and plain.
 use Rattle.std.proofs.Common.{◌≡◌, ℕ, ◌+◌, ◌-◌, ◌<◌, ◌≤◌, ◌/◌, ◌%◌, Bool, true, false, nat_lt, List, [], ◌∷◌, ◌++◌}
-use Rattle.std.proofs.Common.{length, refl, sym, ◌∙◌, ap, ap₂, subst, arith, true≢false}
+use Rattle.std.proofs.Common.{length, refl, sym, ◌∙◌, ap, ap₂, subst, arith}
 use Rattle.std.specs.Prelude.{◌&&◌}
 use Rattle.std.specs.List.{AllByRecursion}
 use Rattle.std.specs.Char.{digit_char, encode_utf8}
 use Rattle.std.specs.Str.{chars}
 use Rattle.std.proofs.Math.Utf8.{scalar, scalars, encodes}
-use Rattle.std.proofs.lemmas.Bool.{ltb-false, le-ltb}
+use Rattle.std.proofs.lemmas.Bool.{ltb-false, le-ltb, and_parts}
 use Rattle.std.proofs.lemmas.Bool.Decides.{nat_tests}
 use Rattle.std.proofs.lemmas.List.{length-append, append-nil}
 use Rattle.std.proofs.lemmas.Str.{encodes-append, encodes-chars, chars-encodes, scalars-chars, encode_ascii}
@@ -125,19 +125,11 @@ character_plain code is_scalar = go (is_order code) refl
       are = append-nil (encode_utf8 code);
     })
 
-and_left : (a b : Bool) → (a && b) ≡ true → a ≡ true
-and_left true b is = refl
-and_left false b is = is
-
-and_right : (a b : Bool) → (a && b) ≡ true → b ≡ true
-and_right true b is = is
-and_right false b is = absurd (true≢false (sym is))
-
 within_plain : (room : ℕ) (cs : List ℕ) → scalars cs ≡ true → IsPlainText (shown_within room cs)
 within_plain room [] all = nothing
 within_plain room (c ∷ cs) all =
-    go (character_plain c (and_left (scalar c) (scalars cs) all))
-    (within_plain (room - size_of c) cs (and_right (scalar c) (scalars cs) all)) (nat_lt room (size_of c)) refl
+    go (character_plain c (and_parts (scalar c) (scalars cs) all).0)
+    (within_plain (room - size_of c) cs (and_parts (scalar c) (scalars cs) all).1) (nat_lt room (size_of c)) refl
   where
     go : IsPlainText (shown_character c) → IsPlainText (shown_within (room - size_of c) cs) → (b : Bool)
         → nat_lt room (size_of c) ≡ b → IsPlainText (shown_within room (c ∷ cs))

@@ -2,7 +2,7 @@
 -- through the pairs in each frame.
 use Rattle.std.proofs.Common.{◌≡◌, ◌⊎◌, inl, inr, ℕ, zero, suc, ◌+◌, ◌<◌, ◌≤◌, ℤ, pos, ◌<ℤ◌, length, subst, sym, arith}
 use Rattle.std.proofs.lemmas.Int.{ints}
-use Rattle.plain_laws.proofs.Order.{trichotomy}
+use Rattle.plain_laws.proofs.Order.{trichotomy, sign_of}
 use Rattle.tin_base.specs.declared.frames.Frame.{Frame}
 use Rattle.tin_base.specs.declared.frames.Frame.TheVariants.{Source, Target}
 use Rattle.tin_base.specs.Triangulation.{Triangulation}
@@ -20,9 +20,6 @@ abbrev HasFirstFault : Triangulation → Type 0
 HasFirstFault tin = (fault : CheckFault) × IsFirstFault tin fault
 
 -- ---- through the triangles
-sign_of : (z : ℤ) → (z ≡ pos 0) ⊎ ((z <ℤ pos 0) ⊎ (pos 0 <ℤ z))
-sign_of z = grind (arith, ints)
-
 below_zero : (z : ℤ) → z <ℤ pos 0 → z ≡ pos 0 → ⊥
 below_zero z h e = absurd (omega (arith, ints))
 

@@ -1,5 +1,6 @@
 -- Which faults come before a key, and which do one step further.
 use Rattle.std.proofs.Common.{◌≡◌, ◌⊎◌, inl, inr, ℕ, ◌+◌, ◌<◌, ◌≤◌, List, [], ◌∷◌, length, refl, ◌∙◌, ap, arith}
+use Rattle.plain_laws.proofs.Order.{at_or_before}
 use Rattle.tin_base.specs.declared.frames.Frame.{Frame}
 use Rattle.tin_base.specs.Triangulation.{Triangulation}
 use Rattle.tin_check.specs.Faults.{frame_rank, IsLowerRank}
@@ -69,12 +70,9 @@ pub triangle_on : (a t : ℕ) → IsLowerRank (triangle_key a t) (triangle_key a
 triangle_on a t = lower_triangle a t a (t + 1) (inr (refl, omega arith))
 
 -- ---- all triangles of a frame
-next_frame : (a c : ℕ) → a < c + 1 → (a < c) ⊎ (a ≡ c)
-next_frame a c h = grind arith
-
 triangles_at : (a c n u : ℕ) → u < n → IsLowerRank (triangle_key a u) (triangle_key (c + 1) 0)
     → IsLowerRank (triangle_key a u) (triangle_key c n)
-triangles_at a c n u within h = grind (arith, triangle_lower, lower_triangle, next_frame)
+triangles_at a c n u within h = grind (arith, triangle_lower, lower_triangle, at_or_before)
 
 pub triangles_end : (tin : Triangulation) (c n : ℕ) (fault : Fault) → length tin.triangles ≤ n → IsFaultOf tin fault
     → IsPassed (triangle_key (c + 1) 0) fault → IsPassed (triangle_key c n) fault
@@ -154,7 +152,7 @@ first_on c a b = lower_pair c a b c (a + 1) 0 (inr (refl, inl (omega arith)))
 -- ---- all pairs of a frame
 pub pairs_end : (tin : Triangulation) (c n : ℕ) (fault : Fault) → length tin.triangles ≤ n → IsFaultOf tin fault
     → IsPassed (pair_key (c + 1) 0 0) fault → IsPassed (pair_key c n 0) fault
-pairs_end tin c n fault past is h = grind (arith, triangle_first, pair_lower, lower_pair, next_frame)
+pairs_end tin c n fault past is h = grind (arith, triangle_first, pair_lower, lower_pair, at_or_before)
 
 pub pairs_over : (c n : ℕ) → IsLowerRank (pair_key c n 0) (pair_key (c + 1) 0 0)
 pairs_over c n = lower_pair c n 0 (c + 1) 0 0 (inl (omega arith))

@@ -1,8 +1,9 @@
 -- A triangulation has a list of all its faults. The search is over the definitions alone: through the triangles of each
 -- frame, and then through the pairs of each.
-use Rattle.std.proofs.Common.{◌≡◌, ◌≢◌, ◌⊎◌, inl, inr, ℕ, zero, suc, ◌+◌, ◌<◌, ◌≤◌, ℤ, pos, neg_ℤ, ◌<ℤ◌, List, [], ◌∷◌, ◌++◌}
+use Rattle.std.proofs.Common.{◌≡◌, ◌≢◌, ◌⊎◌, inl, inr, ℕ, zero, suc, ◌+◌, ◌<◌, ◌≤◌, ℤ, pos, ◌<ℤ◌, List, [], ◌∷◌, ◌++◌}
 use Rattle.std.proofs.Common.{length, map, slice_index_or, refl, sym, subst, arith}
 use Rattle.std.proofs.lemmas.Int.{ints}
+use Rattle.plain_laws.proofs.Order.{sign_of, opposite}
 use Rattle.plane_base.specs.Plane.{Point}
 use Rattle.tin_base.specs.declared.corners.Corner.{Corner}
 use Rattle.tin_base.specs.declared.frames.Frame.{Frame}
@@ -118,12 +119,6 @@ record IsLeft (tin : Triangulation) (frame : Frame) (ns : List ℕ) : Type 0 whe
   same : HaveSameNumbers ns numbers
   positive : pos 0 <ℤ turn_of_three (places tin frame numbers)
 
-sign_of : (z : ℤ) → (z ≡ pos 0) ⊎ ((z <ℤ pos 0) ⊎ (pos 0 <ℤ z))
-sign_of z = grind (arith, ints)
-
-turned_sign : (y z : ℤ) → y ≡ neg_ℤ z → y <ℤ pos 0 → pos 0 <ℤ z
-turned_sign y z e h = omega (arith, ints)
-
 left_turned_numbers : (tin : Triangulation) (frame : Frame) (ns : List ℕ) → turn_of_three (places tin frame ns) ≢ pos 0
     → IsLeft tin frame ns
 left_turned_numbers tin frame [] denied = absurd (denied refl)
@@ -140,7 +135,7 @@ left_turned_numbers tin frame (i ∷ j ∷ k ∷ []) denied = go (sign_of (turn_
     go (inr (inl h)) = record {
       numbers = i ∷ k ∷ j ∷ [];
       same = same_counted (i ∷ j ∷ k ∷ []) (i ∷ k ∷ j ∷ []) (inr refl);
-      positive = turned_sign (turn_of_three (places tin frame (i ∷ j ∷ k ∷ [])))
+      positive = opposite (turn_of_three (places tin frame (i ∷ j ∷ k ∷ [])))
           (turn_of_three (places tin frame (i ∷ k ∷ j ∷ [])))
           (turned_turn (place frame (corner_at tin i)) (place frame (corner_at tin j)) (place frame (corner_at tin k))) h;
     }

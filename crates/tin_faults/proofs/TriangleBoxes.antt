@@ -6,6 +6,7 @@ use Rattle.std.proofs.lemmas.Bool.Decides.{eqb_tells}
 use Rattle.std.proofs.lemmas.Int.{ints}
 use Rattle.std.proofs.lemmas.List.{get_or_default, get_or_append_left, get_or_push, length_push}
 use Rattle.std.proofs.lemmas.List.Elements.{Contains-get_or}
+use Rattle.plain_laws.proofs.Order.{one_of_three}
 use lib.Signed.{lt_z_yes}
 use Rattle.plane_base.specs.declared.shapes.Tri.{Tri}
 use Rattle.plane_base.specs.declared.shapes.Rect.{Rect}
@@ -115,15 +116,8 @@ pub box_ordered : (tin : Triangulation) (frame : Frame) (t : ℕ) (box : Rect) �
     → IsOrdered box
 box_ordered tin frame t box is = subst IsOrdered (sym is.is) (triangle_ordered is.tri)
 
--- one of three numbers
-abbrev IsOneOf : ℤ → ℤ → ℤ → ℤ → Type 0
-IsOneOf z a b c = (z ≡ a) ⊎ ((z ≡ b) ⊎ (z ≡ c))
-
-pick : (z a b c : ℤ) (P : ℤ → Type 0) → IsOneOf z a b c → P a → P b → P c → P z
-pick z a b c P e ha hb hc = grind arith
-
 span_of : (r s : Tri) → AreNearTris r s → IsWithinSpan (box_of_triangle r) (box_of_triangle s)
-span_of r s near = grind (arith, pick, greatest_is_one, least_is_one)
+span_of r s near = grind (arith, one_of_three, greatest_is_one, least_is_one)
 
 pub boxes_ordered : (tin : Triangulation) (frame : Frame) (boxes : List Rect)
     → AreTriangleBoxes tin frame (length tin.triangles) boxes → AreOrdered boxes

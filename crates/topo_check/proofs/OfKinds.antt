@@ -4,6 +4,7 @@ use Rattle.std.proofs.Common.{◌≡◌, ◌⊎◌, zero, suc, inl, inr, ⊎_eli
 use Rattle.std.proofs.Common.{get_or, Contains, true, false, None, refl, sym, ap, subst, ◌∙◌, arith}
 use Rattle.std.proofs.lemmas.Bool.{cases_lt, false_from_ne_true}
 use Rattle.std.proofs.lemmas.List.{get_or_append_left, get_or_push, length_push, get_or_default, get_or-map, length-map}
+use Rattle.plain_laws.proofs.Order.{at_or_before}
 use Rattle.tin_base.specs.declared.pieces.Piece.{Piece}
 use Rattle.tin_base.specs.Triangulation.{Triangulation}
 use Rattle.topo_check.specs.declared.comparisons.ChangedPair.{ChangedPair}
@@ -32,9 +33,6 @@ at_old ns n i h = get_or_append_left ns (n ∷ []) 0 i h
 at_new : (ns : List ℕ) (n i : ℕ) → length ns ≡ i → at (ns ++ n ∷ []) i ≡ n
 at_new ns n i e = get_or_push ns n 0 i e
 
-split : (i count : ℕ) → i < count + 1 → (i < count) ⊎ (i ≡ count)
-split i count h = ⊎_elim (λ less. inl less) (λ past. inr (omega (arith, h, past))) (cases_lt i count)
-
 joined : (tin : Triangulation) (pieces : List Piece) (count kind : ℕ) (firsts kinds : List ℕ)
     → AreKindsOf tin pieces count firsts kinds → kind < length firsts
     → IsSteadyCopy tin (piece_at pieces count) (piece_at pieces (at firsts kind))
@@ -45,9 +43,9 @@ joined tin pieces count kind firsts kinds are within steady = record {
   in_range = λ k h. omega (arith, are.in_range k h);
   ascending = are.ascending;
   kind = λ i h. ⊎_elim (λ less. subst (λ (n : ℕ). n < length firsts) (sym (old i less)) (are.kind i less))
-      (λ e. subst (λ (n : ℕ). n < length firsts) (sym (new i e)) within) (split i count h);
-  copy = λ i h. copy_at i (split i count h);
-  own = λ i j less h e. own_at i j less (split j count h) e;
+      (λ e. subst (λ (n : ℕ). n < length firsts) (sym (new i e)) within) (at_or_before i count h);
+  copy = λ i h. copy_at i (at_or_before i count h);
+  own = λ i j less h e. own_at i j less (at_or_before j count h) e;
 }
   where
     old : (i : ℕ) → i < count → at (kinds ++ kind ∷ []) i ≡ at kinds i
@@ -88,16 +86,16 @@ begun tin pieces count firsts kinds are = record {
   kind = λ i h. ⊎_elim (λ less. subst (λ (n : ℕ). n < length (firsts ++ count ∷ [])) (sym (old i less))
       (omega (arith, are.kind i less, grown)))
       (λ e. subst (λ (n : ℕ). n < length (firsts ++ count ∷ [])) (sym (new i e)) (omega (arith, grown)))
-      (split i count h);
-  copy = λ i h. copy_at i (split i count h);
-  own = λ i j less h e. own_at i j less (split j count h) e;
+      (at_or_before i count h);
+  copy = λ i h. copy_at i (at_or_before i count h);
+  own = λ i j less h e. own_at i j less (at_or_before j count h) e;
 }
   where
     grown : length (firsts ++ count ∷ []) ≡ length firsts + 1
     grown = length_push firsts count
 
     split_first : (k : ℕ) → k < length (firsts ++ count ∷ []) → (k < length firsts) ⊎ (k ≡ length firsts)
-    split_first k h = split k (length firsts) (omega (arith, h, grown))
+    split_first k h = at_or_before k (length firsts) (omega (arith, h, grown))
 
     old : (i : ℕ) → i < count → at (kinds ++ length firsts ∷ []) i ≡ at kinds i
     old i h = at_old kinds (length firsts) i (omega (arith, h, are.same))

@@ -2,7 +2,7 @@
 use Rattle.std.proofs.Common.{◌≡◌, ◌==◌, ℕ, zero, suc, ◌+◌, ◌-◌, ◌<◌, ◌≤◌, Bool, true, false, refl, ap, sym, ◌∙◌, subst}
 use Rattle.std.proofs.Common.{List, [], ◌∷◌, ◌++◌, map, filter, flat_map, length, take, drop, Option, Some, arith}
 use Rattle.std.proofs.Common.{codes, get_or, pos, cond, None, Ok}
-use Rattle.std.proofs.lemmas.List.{append-nil, length-take-le, length-drop, get_or-append-add, length-append, drop-drop}
+use Rattle.std.proofs.lemmas.List.{append-nil, length-take-le, length-drop, get_or-append-add, length-append, drop-drop, length-map}
 use Rattle.std.specs.Prelude.{⊤}
 use Rattle.std.specs.Option.{is_some}
 use Rattle.std.proofs.lemmas.Bool.Decides.{nat_tests}
@@ -33,7 +33,7 @@ use Rattle.dxf_entities.specs.declared.points.LineFields.{LineFields}
 use Rattle.dxf_copies.specs.Rendering.{Reading, entity_at}
 use Rattle.dxf_layer.specs.InsideWalks.{WalkPlace, free, staying, reading}
 use Rattle.dxf_entities.proofs.GroupShapes.{Outline, flat_outline, is_seeded, kind_of_points, light_outline}
-use Rattle.dxf_entities.proofs.GroupShapes.{length_mapped, entity_told}
+use Rattle.dxf_entities.proofs.GroupShapes.{entity_told}
 use Rattle.dxf_entities.proofs.OutlineEnds.{imaged_outlines, rows_behind, points_of, run_heights, AreAll}
 use Rattle.dxf_entities.proofs.EntityEdits.{line_parts}
 use Rattle.dxf_entities.proofs.Members.{Follow, went, lies, by_past}
@@ -139,7 +139,7 @@ end_written read how seed entity kind vertices count first set goes_on no_vertex
     let here : turn how (is_seeded seed) (open_line kind points) (entity_told read.bytes entity)
     ≡ Some (turn_of (light_outline kind points ∷ [])) = rw (no_vertex, is_end) refl in
     let same_count : length (map (λ (vertex : VertexFields). point_of vertex.spot) vertices) ≡ length vertices =
-    length_mapped _ vertices in
+    length-map vertices _ in
     let image : imaged_outlines read.images first (heavy_shape kind vertices ∷ []) ≡ light_outline kind points ∷ [] =
     ap (λ (n : ℕ). flat_outline (kind_with kind vertices) (images_of read.images first (first + n)) ∷ []) same_count ∙
     ap (λ (k : Option PathKind). flat_outline k points ∷ []) (sym (kinds_same _ count first kind vertices good inside))
@@ -241,7 +241,7 @@ second_found bytes exact entity other second = grind (arith, went)
 
 light_count : (kind : PathKind) (vertices : List VertexFields) (number : Pair) (first count : ℕ)
     → first + length (points_of (light_shape kind vertices number ∷ [])) ≤ count → first + length vertices ≤ count
-light_count kind vertices number first count inside = grind (arith, length-append, points_of, length_mapped)
+light_count kind vertices number first count inside = grind (arith, length-append, points_of, length-map)
 
 module _ (read : Reading) (how : How) (seed : Option Pair) (count : ℕ) (follow : GroupsFollow)
     (good : AreGoodImages read.images count) (lights : LightsAreWritten read how seed count) (entity : Entity)

@@ -3,7 +3,7 @@ use Rattle.std.proofs.Common.{◌≡◌, ◌==◌, ℕ, ◌+◌, ◌<◌, ◌≤
 use Rattle.std.proofs.Common.{◌∷◌, ◌++◌, filter, flat_map, arith, inl, inr, zero, suc, ◌-◌, ◌^◌, pos, map, length, take}
 use Rattle.std.proofs.Common.{drop, get_or, Option, Some, Ok, Err, codes}
 use Rattle.std.specs.Prelude.{◌⊎◌}
-use Rattle.std.proofs.lemmas.List.{append_assoc, append-nil, length-drop, length-take-le, take-append-drop}
+use Rattle.std.proofs.lemmas.List.{append_assoc, append-nil, length-drop, length-take-le, take-append-drop, length-map}
 use Rattle.std.proofs.lemmas.Bool.Decides.{nat_tests}
 use Rattle.std.specs.Fmt.{digits}
 use Rattle.plane_base.specs.declared.shapes.Pt.{Pt}
@@ -28,7 +28,7 @@ use Rattle.dxf_copies.specs.Rendering.{Reading, crossings_of, image_of}
 use Rattle.dxf_entities.proofs.Members.{IsIn, Follow, lies, went, wanted_is}
 use Rattle.dxf_entities.proofs.GroupShapes.{coded, fields_in, groups_in, fields_told, itself, one_value, value_wanted}
 use Rattle.dxf_entities.proofs.GroupShapes.{next, told, flat_outline, is_seeded, kind_from, kind_in, kind_told}
-use Rattle.dxf_entities.proofs.GroupShapes.{count_in, light_outline, light_outlines, length_mapped, points_in, Told}
+use Rattle.dxf_entities.proofs.GroupShapes.{count_in, light_outline, light_outlines, points_in, Told}
 use Rattle.dxf_entities.proofs.ChangedFields.{may_change, with_value, DoStay, Agree, value_same, wanted_changed, made}
 use Rattle.dxf_entities.proofs.ChangedFields.{AreNumbers, numbers_both, left, made_both, fields_made, filter_made}
 use Rattle.dxf_entities.proofs.ChangedFields.{other_code, made_agrees}
@@ -473,7 +473,7 @@ module _ (follow : GroupsFollow) (read : Reading) (how : How) (seed : Option Pai
 
       image : imaged_outlines read.images first (light_shape kind vertices number ∷ []) ≡ light_outline kind points ∷ []
       image = ap (λ (n : ℕ). flat_outline (kind_with kind vertices) (images_of read.images first (first + n)) ∷ [])
-          (length_mapped (λ (vertex : VertexFields). point_of vertex.spot) vertices)
+          (length-map vertices (λ (vertex : VertexFields). point_of vertex.spot))
           ∙ ap (λ (k : Option PathKind). flat_outline k points ∷ [])
           (sym (kinds_same read.images count first kind vertices good inside))
 

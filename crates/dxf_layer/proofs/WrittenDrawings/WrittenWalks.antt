@@ -4,7 +4,7 @@ use Rattle.std.proofs.Common.{pos, subst, filter, flat_map, length, Option, Some
 use Rattle.std.proofs.Common.{bytes_eq, ◌==◌, ◌<◌, ◌^◌, zero, suc, take}
 use Rattle.std.specs.Prelude.{⊤, ◌||◌, ◌&&◌, ◌⊎◌}
 use Rattle.std.specs.List.{list_any}
-use Rattle.std.proofs.lemmas.List.{append_assoc, length-append}
+use Rattle.std.proofs.lemmas.List.{append_assoc, length-append, length-map}
 use Rattle.std.proofs.lemmas.Bool.{or_right}
 use Rattle.std.proofs.lemmas.Bool.Decides.{Decides-int_eq, nat_tests}
 use Rattle.std.specs.Ordering.{int_eq}
@@ -33,7 +33,7 @@ use Rattle.dxf_entities.specs.declared.handles.TheConstants.{MOST_DIGITS}
 use Rattle.dxf_copies.specs.PairGroups.{begins_at, covers, is_of_value}
 use Rattle.dxf_copies.specs.Rendering.{Reading, text_of, next_behind}
 use Rattle.dxf_layer.specs.InsideWalks.{WalkPlace, reading, Step, walk_of}
-use Rattle.dxf_entities.proofs.GroupShapes.{is_seeded, Outline, Told, length_mapped}
+use Rattle.dxf_entities.proofs.GroupShapes.{is_seeded, Outline, Told}
 use Rattle.dxf_entities.proofs.WrittenGroups.{ends, handle_written}
 use Rattle.dxf_entities.proofs.Members.{IsIn, Follow, Lies, lies}
 use Rattle.dxf_entities.proofs.WholeShapes.{path_behind, paths_past, points_past}
@@ -144,7 +144,7 @@ enough_points bytes how seed kind vertices (entity ∷ entities) shapes is =
           → ((more_vertices : List VertexFields) (rest : List Shape)
           → walk_of bytes how seed (reading kind more_vertices) entities ≡ Ok rest
           → length more_vertices ≤ length (points_of rest)) → length vertices ≤ length (points_of shapes)
-      by_step here more are more_is (the_end end) later = grind (arith, length-append, points_of, length_mapped)
+      by_step here more are more_is (the_end end) later = grind (arith, length-append, points_of, length-map)
       by_step here more are more_is (one_vertex vertex) later =
           let same = are ∙ ap (λ (h : Step). h.shapes ++ more) vertex.here_is in
           let rest : walk_of bytes how seed (reading kind (vertices ++ vertex.vertex ∷ [])) entities ≡ Ok more =

@@ -10,9 +10,9 @@ use Rattle.jtext.specs.declared.document.Doc.{Doc}
 use Rattle.jtext.specs.declared.document.Kind.{Kind}
 use Rattle.jtext.specs.declared.document.Kind.TheVariants as kinds
 use Rattle.jtext.specs.declared.document.Node.{Node}
-use Rattle.jtext.proofs.CallerLemmas.MemberLoops.{object_of}
-use Rattle.jtext.proofs.CallerLemmas.NodePlaces.{ElementsStand, first_there, text_there, ends_within, array_stands, element_stands}
-use Rattle.jtext.proofs.CallerLemmas.NodePlaces.{rest_stands, node_stands, node_count_positive}
+use Rattle.jtext.proofs.CallerLemmas.MemberLoops.{object_of, array_of}
+use Rattle.jtext.proofs.CallerLemmas.NodePlaces.{ElementsStand, first_there, text_there, ends_within, array_stands, element_stands, value_at}
+use Rattle.jtext.proofs.CallerLemmas.NodePlaces.{rest_stands, node_count_positive}
 use Rattle.gj_layer.specs.InsideNodes.{AreLeft}
 
 module _ (nodes : List Node) (bytes : List ℕ) where
@@ -85,15 +85,10 @@ module _ (nodes : List Node) (bytes : List ℕ) where
       let more = left_count (at + node_count value) end (next_place (element_start place before) value after) rest
       h.1 in omega (arith, more)
 
--- some value is at each node of a document that was read
-some_there : (doc : Doc) (bytes : List ℕ) (number : ℕ) → IsReadFrom doc bytes → number < length doc.nodes
-    → (start : ℕ) × (value : Json) × HasNodesAt doc.nodes bytes number start value
-some_there doc bytes number (whole, reading) within = node_stands whole doc bytes reading number within
-
 pub seen : (doc : Doc) (bytes : List ℕ) (number : ℕ) (node : Node) → IsReadFrom doc bytes → number < length doc.nodes
     → slice_get doc.nodes number ≡ Some node → IsSeen doc.nodes bytes number node
 seen doc bytes number node read within got =
-    let (start, value, h) = some_there doc bytes number read within in seen_there doc.nodes bytes number start value
+    let (start, value, h) = value_at doc bytes number read within in seen_there doc.nodes bytes number start value
     node h got
 
 pub kind_within : (nodes : List Node) (number : ℕ) (kind : Kind) → HasKind nodes number kind → number < length nodes
@@ -104,12 +99,6 @@ pub numeral_of : (value : Json) → kind_of value ≡ kinds.Number → (text : L
 numeral_of (numeral text) h = (text, refl)
 numeral_of (truth Bool.true) h = cc
 numeral_of _ h = cc
-
-pub array_of : (value : Json) → kind_of value ≡ kinds.Array
-    → (blank : List ℕ) × (elements : Elements) × (value ≡ array blank elements)
-array_of (array blank elements) h = (blank, elements, refl)
-array_of (truth Bool.true) h = cc
-array_of _ h = cc
 
 -- the node's kind is the value's
 pub kind_there : (nodes : List Node) (bytes : List ℕ) (number start : ℕ) (value : Json) (node : Node) (kind : Kind)
@@ -130,7 +119,7 @@ pub array_there : (doc : Doc) (bytes : List ℕ) (number : ℕ) → IsReadFrom d
     → (start : ℕ) × (blank : List ℕ) × (elements : Elements)
     × HasNodesAt doc.nodes bytes number start (array blank elements)
 array_there doc bytes number read (node, got, is) =
-    let (start, value, h) = some_there doc bytes number read (slice_get_within doc.nodes number node got) in
+    let (start, value, h) = value_at doc bytes number read (slice_get_within doc.nodes number node got) in
     let (blank, elements, same) = array_of value
     (kind_there doc.nodes bytes number start value node kinds.Array h got is) in
     (start, blank, elements, subst (HasNodesAt doc.nodes bytes number start) same h)
@@ -140,7 +129,7 @@ pub object_there : (doc : Doc) (bytes : List ℕ) (number : ℕ) → IsReadFrom 
     → (start : ℕ) × (blank : List ℕ) × (members : Members)
     × HasNodesAt doc.nodes bytes number start (object blank members)
 object_there doc bytes number read (node, got, is) =
-    let (start, value, h) = some_there doc bytes number read (slice_get_within doc.nodes number node got) in
+    let (start, value, h) = value_at doc bytes number read (slice_get_within doc.nodes number node got) in
     let (blank, members, same) = object_of value
     (kind_there doc.nodes bytes number start value node kinds.Object h got is) in
     (start, blank, members, subst (HasNodesAt doc.nodes bytes number start) same h)
@@ -149,7 +138,7 @@ object_there doc bytes number read (node, got, is) =
 pub node_there : (doc : Doc) (bytes : List ℕ) (number : ℕ) → IsReadFrom doc bytes → number < length doc.nodes
     → (node : Node) × (slice_get doc.nodes number ≡ Some node) × IsSeen doc.nodes bytes number node
 node_there doc bytes number read within =
-    let (start, value, h) = some_there doc bytes number read within in
+    let (start, value, h) = value_at doc bytes number read within in
     let got = first_there doc.nodes bytes number start value h in (
       first_node number start value,
       got,

@@ -1,13 +1,11 @@
 -- The texts of a sheet's edits: those of paths are their images, and the others are values of one level.
-use Rattle.std.proofs.Common.{◌≡◌, ℕ, ◌-◌, ◌≤◌, Bool, true, false, List, [], ◌∷◌, ◌++◌, take, drop, refl, ap, ◌∙◌}
+use Rattle.std.proofs.Common.{◌≡◌, ◌-◌, ◌≤◌, Bool, true, false, List, [], ◌∷◌, ◌++◌, take, drop, refl, ap, ◌∙◌}
 use Rattle.std.proofs.Common.{subst, ℤ, append_assoc, append-nil, arith}
 use Rattle.std.specs.Prelude.{flat_map, fold, int_lt, unsigned_abs, Option, Some, None, if◌then◌else◌}
 use Rattle.std.specs.Int.{int_min, int_max}
 use Rattle.std.specs.List.{AllByRecursion}
 use Rattle.mm_decimal.specs.declared.limits.TheConstants.{LIMIT}
 use Rattle.jtext.specs.Values.{null, array, no_element}
-use Rattle.sheet_base.specs.declared.paths.PathKind.{PathKind}
-use Rattle.sheet_base.specs.declared.paths.PathKind.TheVariants.{Dot}
 use Rattle.sheet_base.specs.declared.paths.PathRow.{PathRow}
 use Rattle.sheet_base.specs.PointHeights.{Height, Position, IsHeightWithinReach}
 use Rattle.sheet_base.specs.ImageFits.{Runs, positions_in, path_positions, DoFit}
@@ -19,7 +17,7 @@ use Rattle.gj_layer.specs.InsideBoxes.{level_of, level_with, box_of_image, widen
 use Rattle.gj_layer.specs.Texts.{numbers_text, lowest_of, highest_of, box_text, bounds_text, row_positions, what_text}
 use Rattle.gj_layer.specs.Texts.{geojson_edit_text}
 use Rattle.gj_layer.proofs.WrittenPaths.BoxLemmas.{box_is}
-use Rattle.sheet_base.proofs.DrawnPaths.{IsPositionWithinReach, all_of, all_reach}
+use Rattle.sheet_base.proofs.DrawnPaths.{IsPositionWithinReach, all_of, all_reach, by_kind}
 use Rattle.gj_layer.proofs.WrittenPaths.DrawnImages.{kind_text}
 use Rattle.gj_layer.proofs.WrittenPaths.ImageValues.{numbers_and, numbers_spelled, numbers_are}
 use Rattle.gj_layer.proofs.WrittenValues.Turns.{IsFlat, DoesSay}
@@ -124,17 +122,13 @@ rows_within images [] all = tt
 rows_within images (row ∷ rows) all =
     grind (arith, all_append, IsPositionWithinReach, all_of, (rows_within images rows all))
 
-says_kind : (rows : List PathRow) (images : Runs) (kind : PathKind) (number : ℕ)
-    → what_text rows images (text_for kind number) ≡ kind_text kind (path_positions rows images number)
-says_kind rows images Dot number = refl
-says_kind rows images _ number = refl
-
 pub texts_say : (part : Part) (images : Runs) → DoFit (sheet_of part) images
     → DoesSay (geojson_edit_text (sheet_of part) images) (path_positions (rows_from 0 part.paths) images)
 texts_say part images fit =
     let rows = rows_from 0 part.paths in
     record {
-      paths = λ number path. says_kind rows images path.kind number;
+      paths = λ number path. by_kind (λ kind. what_text rows images (text_for kind number)
+          ≡ kind_text kind (path_positions rows images number)) refl refl refl path.kind;
       boxes = λ one first past. bounds_flat (flat_map (row_positions images) (take (past - first) (drop first rows)))
           (rows_within images (take (past - first) (drop first rows)) (all_reach (sheet_of part) images fit));
       nulls = λ one. refl;

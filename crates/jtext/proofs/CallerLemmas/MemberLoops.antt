@@ -4,7 +4,7 @@ use Rattle.std.proofs.Common.{sym, ap, ◌∙◌, arith, subst}
 use Rattle.std.specs.Prelude.{Option, Some, None, Err, slice_get}
 use Rattle.std.proofs.lemmas.Option.{same_Some}
 use Rattle.jtext.specs.Characters.{units_of}
-use Rattle.jtext.specs.Values.{Json, Members, truth, quoted, object, no_member, member}
+use Rattle.jtext.specs.Values.{Json, Elements, Members, truth, quoted, array, object, no_member, member}
 use Rattle.jtext.specs.Nodes.{kind_of, node_count, member_count, first_node, element_start, member_start, next_place}
 use Rattle.jtext.specs.Nodes.{inner_place}
 use Rattle.jtext.specs.Places.{IsReadFrom, HasNodesAt, Entry, entries_at, HasKind}
@@ -135,6 +135,13 @@ module _ (nodes : List Node) (bytes key : List ℕ) (end at : ℕ) (found : Opti
       → found ≡ Some number
       → only_one (entries_of_key key entries) ≡ Err (record { at = n.entry.key_start })
   second_found n same number some = grind (arith, taken)
+
+-- values by their kinds
+pub array_of : (value : Json) → kind_of value ≡ kinds.Array
+    → (blank : List ℕ) × (elements : Elements) × (value ≡ array blank elements)
+array_of (array blank elements) is = (blank, elements, refl)
+array_of (truth true) is = cc
+array_of _ is = cc
 
 pub object_of : (value : Json) → kind_of value ≡ kinds.Object
     → (blank : List ℕ) × (members : Members) × (value ≡ object blank members)

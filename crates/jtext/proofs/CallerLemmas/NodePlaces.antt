@@ -10,7 +10,7 @@ use Rattle.jtext.specs.Values.{members_text, members_behind, IsValue, AreElement
 use Rattle.jtext.specs.Nodes.{node_count, element_count, member_count, first_node, key_node, nodes_of, element_nodes}
 use Rattle.jtext.specs.Nodes.{member_nodes, element_start, member_start, next_place, inner_place}
 use Rattle.jtext.specs.Texts.{Whole, mark_text}
-use Rattle.jtext.specs.Places.{whole_start, whole_nodes, IsDocOf, IsPartAt, HasNodesAt}
+use Rattle.jtext.specs.Places.{whole_start, whole_nodes, IsDocOf, IsPartAt, HasNodesAt, IsReadFrom}
 use Rattle.jtext.specs.declared.document.Node.{Node}
 use Rattle.jtext.specs.declared.document.Doc.{Doc}
 use Rattle.jtext.specs.declared.json_texts.TheConstants.{DEEPEST}
@@ -401,3 +401,8 @@ node_stands whole doc bytes r number below =
     value_inside doc.nodes bytes whole.value 0 (whole_start whole) (reading_stands whole doc bytes r) number
     (omega arith)
     (omega (arith, ap length r.nodes, length-nodes_of whole.value 0 (whole_start whole)))
+
+-- and so a value is at each node of a document that was read
+pub value_at : (doc : Doc) (bytes : List ℕ) (number : ℕ) → IsReadFrom doc bytes → number < length doc.nodes
+    → (start : ℕ) × (value : Json) × HasNodesAt doc.nodes bytes number start value
+value_at doc bytes number (whole, r) below = node_stands whole doc bytes r number below

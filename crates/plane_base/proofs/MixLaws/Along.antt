@@ -5,7 +5,7 @@ use Rattle.integer_ring.proofs.Ring.{Expr, num, neg, ◌⊕◌, ◌⊖◌, ◌�
 use Rattle.integer_ring.proofs.Signs.{≡_of_mul}
 use Rattle.integer_ring.proofs.Claims.{◌≐◌, ◌≼◌, ◌≺◌, gap, over, eqn, ◌⊞◌, ◌because◌, ◌⇒◌, follows}
 use Rattle.plane_base.specs.Plane.{Point, Same, turn_of, along}
-use Rattle.plane_base.proofs.MixLaws.Points.{PointE, turn, plus, nothing, follows_at, solve_at}
+use Rattle.plane_base.proofs.MixLaws.Points.{PointE, turn, follows_at, solve_at, three}
 
 -- ---- along a segment
 abbrev pub along_e : PointE → PointE → Expr → Expr → PointE
@@ -35,9 +35,6 @@ rises u v n d = (
 )
 
 -- ---- the weights of a mix are unique up to a factor
-abbrev three : Expr → Expr → Expr → PointE → PointE → PointE → PointE
-three k l m a b c = plus k a (plus l b (plus m c nothing))
-
 abbrev pub of_three : ℤ → ℤ → ℤ → Point → Point → Point → Point
 of_three k l m a b c =
     record {

@@ -49,6 +49,12 @@ two_weights ks e = absurd (omega arith)
 abbrev pub mixed : ℕ → ℕ → Point → Point → Point
 mixed k l p q = weighted_sum (k ∷ l ∷ []) (p ∷ q ∷ [])
 
+-- a turn with such a mix is that mix of the turns
+pub turn_between : (a b p q : Point) (k l : ℕ)
+    → turn_of a b (mixed k l p q) ≡ pos k *ℤ turn_of a b p +ℤ pos l *ℤ turn_of a b q
+turn_between a b p q k l = solve_at 4 2 (λ a b p q k l. turn a b (plus k p (plus l q nothing)) ≐ k ⊗ turn a b p ⊕ l
+    ⊗ turn a b q) tt a b p q (pos k) (pos l)
+
 -- a point between two others, by its weights
 pub record Between (p q r : Point) : Type 0 where
   pub k : ℕ

@@ -23,6 +23,10 @@ plus k p q = record { x = k ⊗ p.x ⊕ q.x; y = k ⊗ p.y ⊕ q.y; w = k ⊗ p.
 abbrev pub nothing : PointE
 nothing = record { x = num (pos 0); y = num (pos 0); w = num (pos 0) }
 
+-- k·a + l·b + m·c
+abbrev pub three : Expr → Expr → Expr → PointE → PointE → PointE → PointE
+three k l m a b c = plus k a (plus l b (plus m c nothing))
+
 abbrev pub point_at : ℕ → PointE
 point_at k = record { x = var k; y = var (1 + k); w = var (2 + k) }
 

@@ -3,23 +3,20 @@
 use Rattle.std.proofs.Common.{◌≡◌, ◌↔◌, ℕ, ◌<◌, ℤ, pos, ◌+ℤ◌, ◌*ℤ◌, ◌≤ℤ◌, ◌<ℤ◌, List, [], ◌∷◌, length, sum}
 use Rattle.std.proofs.Common.{Bool, IsTrue, ◌∙◌, ap, refl, arith}
 use Rattle.std.proofs.lemmas.Int.{ints}
-use Rattle.integer_ring.proofs.Ring.{Expr, num, ◌⊕◌, ◌⊖◌, ◌⊗◌}
+use Rattle.integer_ring.proofs.Ring.{num, ◌⊕◌, ◌⊖◌, ◌⊗◌}
 use Rattle.integer_ring.proofs.Order.{nonneg_pos, to_nat}
 use Rattle.integer_ring.proofs.Claims.{◌≐◌, ◌≼◌, ◌≺◌, gap, over, eqn, ◌⊞◌, ◌⊠◌, ◌because◌, ◌otherwise◌, ◌⇒◌}
 use Rattle.plane_base.specs.Plane.{Point, Same, turn_of, weighted_sum, IsMix, whole, holds_of}
 use Rattle.plane_base.specs.declared.shapes.Pt.{Pt}
 use Rattle.plane_base.specs.declared.shapes.Tri.{Tri}
 use lib.Signed.{lt_z_yes}
-use Rattle.plane_base.proofs.MixLaws.Points.{PointE, turn, plus, nothing, follows_at}
+use Rattle.plane_base.proofs.MixLaws.Points.{turn, follows_at, three}
 use Rattle.plane_base.proofs.MixLaws.Turns.{turn_same, turn_mix, turn_cycle}
 use Rattle.plain_laws.proofs.Weights.{three_positive}
 
 -- the mix of three points
 abbrev of_three : ℕ → ℕ → ℕ → Point → Point → Point → Point
 of_three k l m a b c = weighted_sum (k ∷ l ∷ m ∷ []) (a ∷ b ∷ c ∷ [])
-
-abbrev three : Expr → Expr → Expr → PointE → PointE → PointE → PointE
-three k l m a b c = plus k a (plus l b (plus m c nothing))
 
 three_weights : (ks : List ℕ) → length ks ≡ 3 → (k : ℕ) × (l : ℕ) × (m : ℕ) × (ks ≡ k ∷ l ∷ m ∷ [])
 three_weights (k ∷ l ∷ m ∷ []) e = (k, l, m, refl)

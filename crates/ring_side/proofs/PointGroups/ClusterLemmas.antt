@@ -3,6 +3,7 @@ use Rattle.std.proofs.Common.{◌≡◌, ℕ, zero, suc, ◌+◌, ◌-◌, ◌<�
 use Rattle.std.specs.Prelude.{◌⊎◌, slice_index}
 use Rattle.std.proofs.Math.ListN.{get_or-append}
 use Rattle.std.proofs.Math.Seq.{get_or-append_seam}
+use Rattle.plain_laws.proofs.Order.{at_or_before}
 use Rattle.plane_base.specs.declared.shapes.Rect.{Rect}
 use Rattle.plane_base.specs.Boxes.{HasBox, box_of_boxes}
 use Rattle.plane_base.proofs.Bounds.BoxLemmas.{joined_has, joined_least, outer_box}
@@ -10,7 +11,6 @@ use Rattle.ring_side.specs.declared.clusters.Cluster.{Cluster}
 use Rattle.ring_side.specs.InsideGroups.{box_at}
 use Rattle.ring_side.specs.InsideClusters.{IsCluster, IsLeastAround, IsAroundBoxes, AreClustersUpTo, AreBasesWithin, DoesKeepClusters, cluster_at, no_cluster, past_before}
 use Rattle.ring_side.proofs.PointGroups.Spots.{same_default}
-use Rattle.ring_side.proofs.RingBoxes.RingNodes.{at_or_before}
 
 -- ---- one more cluster
 past_same : (clusters more : List Cluster) (k : ℕ) → k ≤ length clusters

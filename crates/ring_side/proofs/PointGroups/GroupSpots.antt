@@ -4,8 +4,8 @@ use Rattle.std.proofs.Common.{inl, inr}
 use Rattle.std.specs.Prelude.{flat_map, All, ◌⊎◌}
 use Rattle.std.proofs.Math.ListN.{get_or-append}
 use Rattle.std.proofs.Math.Seq.{get_or-append_seam}
-use Rattle.ring_side.proofs.RingBoxes.RingNodes.{at_or_before}
 use Rattle.std.proofs.lemmas.Grind.{flat_map-append}
+use Rattle.plain_laws.proofs.Order.{at_or_before}
 use Rattle.plane_base.specs.declared.shapes.Pt.{Pt}
 use Rattle.plane_base.specs.declared.shapes.Rect.{Rect}
 use Rattle.plane_base.specs.Boxes.{box_of_point, box_with_point}

@@ -7,11 +7,11 @@ use Rattle.std.proofs.Math.Seq.{take-length}
 use Rattle.std.specs.List.Sorted.{IsPermutation}
 use Rattle.std.proofs.lemmas.List.Sorted.{Contains-permutation, IsPermutation-map}
 use Rattle.std.proofs.lemmas.Map.Views.{All-map-IsPermutation}
+use Rattle.plain_laws.proofs.Order.{at_or_before}
 use Rattle.plane_base.specs.declared.shapes.Rect.{Rect}
 use Rattle.ring_side.specs.declared.groups.Group.{Group}
 use Rattle.ring_side.specs.InsideClusters.{AreNumbersOf}
 use Rattle.ring_side.specs.InsideOrders.{IsOrder}
-use Rattle.ring_side.proofs.RingBoxes.RingNodes.{at_or_before}
 
 -- the number of an entry
 abbrev number_of : ℕ → ℕ

@@ -12,6 +12,7 @@ use Rattle.plane_base.specs.declared.shapes.Pt.{Pt}
 use Rattle.plane_base.specs.Plane.{IsMix, along, turn_of, whole}
 use Rattle.plane_base.specs.Boxes.{box_of_segment}
 use Rattle.plane_base.specs.Laws.{HasParameter}
+use Rattle.plane_base.proofs.MixLaws.Points.{PointE, turn}
 use Rattle.plane_base.proofs.MixLaws.Along.{along-w}
 use Rattle.plane_base.proofs.MixLaws.Turns.{turn_same}
 use Rattle.plane_base.proofs.MixLaws.Parameters.{segments_have_parameters}
@@ -78,9 +79,9 @@ own_axis_back : (a b p : ℤ)
     → p *ℤ (((a -ℤ b) -ℤ (a -ℤ p)) *ℤ pos 1 +ℤ (a -ℤ p) *ℤ pos 1) ≡ (((a -ℤ b) -ℤ (a -ℤ p)) *ℤ a +ℤ (a -ℤ p) *ℤ b) *ℤ pos 1
 own_axis_back = solve 3 (λ a b p. p ⊗ (((a ⊖ b) ⊖ (a ⊖ p)) ⊗ one ⊕ (a ⊖ p) ⊗ one) ≐ (((a ⊖ b) ⊖ (a ⊖ p)) ⊗ a ⊕ (a ⊖ p) ⊗ b) ⊗ one) tt
 
-abbrev turn_e : Expr → Expr → Expr → Expr → Expr → Expr → Expr
-turn_e ax ay bx by px py =
-    ax ⊗ (by ⊗ one ⊖ py ⊗ one) ⊖ ay ⊗ (bx ⊗ one ⊖ px ⊗ one) ⊕ one ⊗ (bx ⊗ py ⊖ px ⊗ by)
+-- a whole point, on expressions
+abbrev whole_e : Expr → Expr → PointE
+whole_e x y = record { x = x; y = y; w = one }
 
 by_x : (a b p : Pt) → turn_of (whole a) (whole b) (whole p) ≡ pos 0 → a.x <ℤ b.x → a.x ≤ℤ p.x → p.x ≤ℤ b.x
     → HasParameter (whole a) (whole b) (whole p)
@@ -90,7 +91,7 @@ by_x a b p zero h low high = record {
   param = (omega (arith, ints), omega (arith, ints), omega (arith, ints));
   same = (
     own_axis a.x b.x p.x,
-    follows 6 (λ ax ay bx by px py. turn_e ax ay bx by px py ≐ num (pos 0)
+    follows 6 (λ ax ay bx by px py. turn (whole_e ax ay) (whole_e bx by) (whole_e px py) ≐ num (pos 0)
         ⇒ py ⊗ (((bx ⊖ ax) ⊖ (px ⊖ ax)) ⊗ one ⊕ (px ⊖ ax) ⊗ one) ≐ (((bx ⊖ ax) ⊖ (px ⊖ ax)) ⊗ ay ⊕ (px ⊖ ax) ⊗ by) ⊗ one
         because eqn 0 one) tt a.x a.y b.x b.y p.x p.y zero,
   );
@@ -104,7 +105,7 @@ by_x_back a b p zero h low high = record {
   param = (omega (arith, ints), omega (arith, ints), omega (arith, ints));
   same = (
     own_axis_back a.x b.x p.x,
-    follows 6 (λ ax ay bx by px py. turn_e ax ay bx by px py ≐ num (pos 0)
+    follows 6 (λ ax ay bx by px py. turn (whole_e ax ay) (whole_e bx by) (whole_e px py) ≐ num (pos 0)
         ⇒ py ⊗ (((ax ⊖ bx) ⊖ (ax ⊖ px)) ⊗ one ⊕ (ax ⊖ px) ⊗ one) ≐ (((ax ⊖ bx) ⊖ (ax ⊖ px)) ⊗ ay ⊕ (ax ⊖ px) ⊗ by) ⊗ one
         because eqn 0 (neg one)) tt a.x a.y b.x b.y p.x p.y zero,
   );
@@ -117,7 +118,7 @@ by_y a b p zero h low high = record {
   d = b.y -ℤ a.y;
   param = (omega (arith, ints), omega (arith, ints), omega (arith, ints));
   same = (
-    follows 6 (λ ax ay bx by px py. turn_e ax ay bx by px py ≐ num (pos 0)
+    follows 6 (λ ax ay bx by px py. turn (whole_e ax ay) (whole_e bx by) (whole_e px py) ≐ num (pos 0)
         ⇒ px ⊗ (((by ⊖ ay) ⊖ (py ⊖ ay)) ⊗ one ⊕ (py ⊖ ay) ⊗ one) ≐ (((by ⊖ ay) ⊖ (py ⊖ ay)) ⊗ ax ⊕ (py ⊖ ay) ⊗ bx) ⊗ one
         because eqn 0 (neg one)) tt a.x a.y b.x b.y p.x p.y zero,
     own_axis a.y b.y p.y,
@@ -131,7 +132,7 @@ by_y_back a b p zero h low high = record {
   d = a.y -ℤ b.y;
   param = (omega (arith, ints), omega (arith, ints), omega (arith, ints));
   same = (
-    follows 6 (λ ax ay bx by px py. turn_e ax ay bx by px py ≐ num (pos 0)
+    follows 6 (λ ax ay bx by px py. turn (whole_e ax ay) (whole_e bx by) (whole_e px py) ≐ num (pos 0)
         ⇒ px ⊗ (((ay ⊖ by) ⊖ (ay ⊖ py)) ⊗ one ⊕ (ay ⊖ py) ⊗ one) ≐ (((ay ⊖ by) ⊖ (ay ⊖ py)) ⊗ ax ⊕ (ay ⊖ py) ⊗ bx) ⊗ one
         because eqn 0 one) tt a.x a.y b.x b.y p.x p.y zero,
     own_axis_back a.y b.y p.y,

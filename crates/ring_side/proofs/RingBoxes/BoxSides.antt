@@ -1,6 +1,7 @@
 -- All points of a box that each segment of a ring is apart from are on one side of the ring.
 use Rattle.std.proofs.Common.{◌≡◌, Bool, true, false, ℤ, ◌<ℤ◌, ◌≤ℤ◌, List, [], ◌∷◌, arith, refl, ap, ap₂, sym, ◌∙◌, inl, inr}
 use Rattle.std.specs.Prelude.{not, if◌then◌else◌, int_lt}
+use Rattle.std.specs.Int.Signed.{<ℤ-≤ℤ_trans}
 use Rattle.std.proofs.lemmas.Int.{ints}
 use Rattle.integer_ring.proofs.Order.{≤_of_<}
 use Rattle.plane_base.specs.declared.shapes.Pt.{Pt}
@@ -14,7 +15,7 @@ use Rattle.ring_side.specs.InsideSides.{side_by, both, side_by_all, side_by_ends
 use Rattle.ring_side.specs.InsideParts.{HasAll}
 use Rattle.ring_side.specs.InsideClear.{AreSegmentsApart, HasSide, corner_of}
 use Rattle.ring_side.proofs.PointSides.SideParts.{both_end, both_assoc, side_by_all_is}
-use Rattle.ring_side.proofs.RingBoxes.InBoxes.{below_is, not_below, one_clear, one_behind, ends_same, ends_joined, outside_ring}
+use Rattle.ring_side.proofs.RingBoxes.InBoxes.{below_is, not_below, one_clear, one_behind, ends_same, ends_joined, outside_ring, above_high}
 use Rattle.plain_laws.proofs.Order.{up_trans}
 
 -- ---- sides together
@@ -72,12 +73,6 @@ under a b c d h k l = omega (arith, ints)
 under_end : (a b c d e : ℤ) → a ≤ℤ b → b <ℤ c → c ≤ℤ d → d ≤ℤ e → a ≤ℤ e
 under_end a b c d e h k l m = omega (arith, ints)
 
-before_low : (b c d : ℤ) → b <ℤ c → c ≤ℤ d → b <ℤ d
-before_low b c d h k = omega (arith, ints)
-
-after_high : (a b c : ℤ) → a ≤ℤ b → b <ℤ c → a <ℤ c
-after_high a b c h k = omega (arith, ints)
-
 -- the sides of two points by a segment that has no share in either, and whose ends say nothing of them
 by_none : (s t : Side) (x y : Bool) → s ≡ Outside → t ≡ Outside → x ≡ false → y ≡ false → s ≡ both t (side_by_ends x y)
 by_none s t x y e f g h = rw (e, f, g, h) refl
@@ -91,26 +86,26 @@ one_apart : (rect around : Rect) (p q a b : Pt) → HasPoint rect p → HasPoint
     → side_by p (record { from = a; to = b })
     ≡ both (side_by q (record { from = a; to = b })) (side_by_ends (is_turned rect p q a) (is_turned rect p q b))
 one_apart rect around p q a b hp hq ha hb (inl (inl left)) =
-    by_none _ _ _ _ (one_clear around p a b (inr (inr (before_low around.x1 rect.x0 p.x left hp.left))) ha hb)
-    (one_clear around q a b (inr (inr (before_low around.x1 rect.x0 q.x left hq.left))) ha hb)
+    by_none _ _ _ _ (one_clear around p a b (inr (inr (<ℤ-≤ℤ_trans left hp.left))) ha hb)
+    (one_clear around q a b (inr (inr (<ℤ-≤ℤ_trans left hq.left))) ha hb)
     (not_turned_left rect p q a (under_end a.x around.x1 rect.x0 p.x rect.x1 ha.right left hp.left hp.right))
     (not_turned_left rect p q b (under_end b.x around.x1 rect.x0 p.x rect.x1 hb.right left hp.left hp.right))
 one_apart rect around p q a b hp hq ha hb (inl (inr right)) =
     by_ends _ _ _ _ (is_above p a) (is_above p b) (is_above q a) (is_above q b)
-    (one_behind around p a b (after_high p.x rect.x1 around.x0 hp.right right) ha hb)
-    (one_behind around q a b (after_high q.x rect.x1 around.x0 hq.right right) ha hb)
-    (turned_right rect p q a (before_low rect.x1 around.x0 a.x right ha.left))
-    (turned_right rect p q b (before_low rect.x1 around.x0 b.x right hb.left))
+    (one_behind around p a b (above_high p.x rect.x1 around.x0 hp.right right) ha hb)
+    (one_behind around q a b (above_high q.x rect.x1 around.x0 hq.right right) ha hb)
+    (turned_right rect p q a (<ℤ-≤ℤ_trans right ha.left))
+    (turned_right rect p q b (<ℤ-≤ℤ_trans right hb.left))
 one_apart rect around p q a b hp hq ha hb (inr (inl below)) =
-    by_none _ _ _ _ (one_clear around p a b (inr (inl (before_low around.y1 rect.y0 p.y below hp.bottom))) ha hb)
-    (one_clear around q a b (inr (inl (before_low around.y1 rect.y0 q.y below hq.bottom))) ha hb)
+    by_none _ _ _ _ (one_clear around p a b (inr (inl (<ℤ-≤ℤ_trans below hp.bottom))) ha hb)
+    (one_clear around q a b (inr (inl (<ℤ-≤ℤ_trans below hq.bottom))) ha hb)
     (not_turned_below rect p q a (≤_of_< a.y p.y (under a.y around.y1 rect.y0 p.y ha.top below hp.bottom))
     (≤_of_< a.y q.y (under a.y around.y1 rect.y0 q.y ha.top below hq.bottom)))
     (not_turned_below rect p q b (≤_of_< b.y p.y (under b.y around.y1 rect.y0 p.y hb.top below hp.bottom))
     (≤_of_< b.y q.y (under b.y around.y1 rect.y0 q.y hb.top below hq.bottom)))
 one_apart rect around p q a b hp hq ha hb (inr (inr above)) =
-    by_none _ _ _ _ (one_clear around p a b (inl (after_high p.y rect.y1 around.y0 hp.top above)) ha hb)
-    (one_clear around q a b (inl (after_high q.y rect.y1 around.y0 hq.top above)) ha hb)
+    by_none _ _ _ _ (one_clear around p a b (inl (above_high p.y rect.y1 around.y0 hp.top above)) ha hb)
+    (one_clear around q a b (inl (above_high q.y rect.y1 around.y0 hq.top above)) ha hb)
     (not_turned_above rect p q a (under p.y rect.y1 around.y0 a.y hp.top above ha.bottom) (under q.y rect.y1 around.y0 a.y hq.top above ha.bottom))
     (not_turned_above rect p q b (under p.y rect.y1 around.y0 b.y hp.top above hb.bottom) (under q.y rect.y1 around.y0 b.y hq.top above hb.bottom))
 

@@ -1,6 +1,7 @@
 -- The sides of segments in a box that does not have the point.
 use Rattle.std.proofs.Common.{◌≡◌, Bool, true, false, ◌&&◌, ℤ, pos, ◌+ℤ◌, ◌-ℤ◌, ◌*ℤ◌, ◌<ℤ◌, ◌≤ℤ◌, List, [], ◌∷◌, arith, refl, ap, sym, ◌∙◌}
 use Rattle.std.specs.Prelude.{not, if◌then◌else◌, int_lt, ◌⊎◌}
+use Rattle.std.specs.Int.Signed.{<ℤ-≤ℤ_trans}
 use Rattle.std.specs.Int.{int_min, int_max}
 use Rattle.std.proofs.Common.{inl, inr}
 use Rattle.std.proofs.lemmas.Int.{ints}
@@ -121,16 +122,13 @@ segment_by_cross p s e = rw e refl
 abbrev pub IsClear : Rect → Pt → Type 0
 IsClear box p = (p.y <ℤ box.y0) ⊎ ((box.y1 <ℤ p.y) ⊎ (box.x1 <ℤ p.x))
 
-below_low : (z m u : ℤ) → z <ℤ m → m ≤ℤ u → z <ℤ u
-below_low z m u a b = omega (arith, ints)
-
-above_high : (u m z : ℤ) → u ≤ℤ m → m <ℤ z → u <ℤ z
+pub above_high : (u m z : ℤ) → u ≤ℤ m → m <ℤ z → u <ℤ z
 above_high u m z a b = omega (arith, ints)
 
 pub one_clear : (box : Rect) (p a b : Pt) → IsClear box p → HasPoint box a → HasPoint box b
     → side_by p (record { from = a; to = b }) ≡ Outside
 one_clear box p a b (inl below) ha hb =
-    let u = below_low p.y box.y0 a.y below ha.bottom in let v = below_low p.y box.y0 b.y below hb.bottom in
+    let u = <ℤ-≤ℤ_trans below ha.bottom in let v = <ℤ-≤ℤ_trans below hb.bottom in
     clear_segment p (record { from = a; to = b }) (off_y p a b (not_between_low a.y b.y p.y u v))
     (rw (below_is p.y a.y u, below_is p.y b.y v) refl)
 one_clear box p a b (inr (inl above)) ha hb =
@@ -145,7 +143,7 @@ one_clear box p a b (inr (inr right)) ha hb =
 pub one_behind : (box : Rect) (p a b : Pt) → p.x <ℤ box.x0 → HasPoint box a → HasPoint box b
     → side_by p (record { from = a; to = b }) ≡ side_by_ends (is_above p a) (is_above p b)
 one_behind box p a b left ha hb =
-    let u = below_low p.x box.x0 a.x left ha.left in let v = below_low p.x box.x0 b.x left hb.left in
+    let u = <ℤ-≤ℤ_trans left ha.left in let v = <ℤ-≤ℤ_trans left hb.left in
     segment_by_cross p (record { from = a; to = b }) (off_x p a b (not_between_low a.x b.x p.x u v))
     ∙ crosses_by_ends p a b u v (≤_or_> a.y p.y) (≤_or_> b.y p.y)
 

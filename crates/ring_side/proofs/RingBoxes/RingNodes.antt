@@ -5,6 +5,7 @@ use Rattle.std.proofs.Math.Seq.{take-length}
 use Rattle.std.proofs.Math.ListN.{get_or-append}
 use Rattle.std.proofs.Math.Seq.{get_or-append_seam}
 use Rattle.std.proofs.lemmas.List.{get_or-take, length-take}
+use Rattle.plain_laws.proofs.Order.{at_or_before}
 use Rattle.plane_base.specs.declared.shapes.Pt.{Pt}
 use Rattle.ring_side.specs.declared.kinds.Side.{Side}
 use Rattle.ring_side.specs.declared.kinds.Side.TheVariants.{Outside}
@@ -63,9 +64,6 @@ end_of_front olds nodes (suc k) e h = grind (arith, get_or-take, get_or)
 still_node : (ring : List Pt) (nodes more : List RingPart) (place : ℕ) (node : RingPart) → place ≤ length nodes
     → IsNode ring nodes place node → IsNode ring (nodes ++ more) place node
 still_node ring nodes more place node within is = grind (arith, end_same)
-
-pub at_or_before : (k n : ℕ) → k < n + 1 → (k < n) ⊎ (k ≡ n)
-at_or_before k n h = grind arith
 
 pub front_shorter : (olds nodes : List RingPart) → take (length olds) nodes ≡ olds → length olds ≤ length nodes
 front_shorter olds nodes e = grind (arith, length-take)

@@ -9,10 +9,10 @@ use Rattle.integer_ring.proofs.Claims.{◌≐◌, ◌≼◌, ◌≺◌, never, g
 use Rattle.plane_base.specs.Plane.{Point, Same, turn_of, IsMix, IsNearTri, whole, corners_of}
 use Rattle.plane_base.specs.declared.shapes.Pt.{Pt}
 use Rattle.plane_base.specs.declared.shapes.Tri.{Tri}
-use Rattle.plane_base.proofs.MixLaws.Points.{turn, plus, nothing, solve_at}
+use Rattle.plane_base.proofs.MixLaws.Points.{turn, solve_at}
 use Rattle.plane_base.proofs.MixLaws.Turns.{turn_same, turn_cycle, turn_twice}
 use Rattle.plane_base.proofs.TriangleLaws.InTriangle.{turns_of_mix}
-use Rattle.plane_base.proofs.MixLaws.Mixes.{mixed, mix_swapped, between_weights, between-w}
+use Rattle.plane_base.proofs.MixLaws.Mixes.{mixed, mix_swapped, between_weights, between-w, turn_between}
 use Rattle.tin_base.specs.declared.frames.Frame.{Frame}
 use Rattle.tin_base.specs.Triangulation.{Triangulation, place, corner_at, numbers_of, places}
 use Rattle.tin_base.specs.Soundness.{has, common, turn_in}
@@ -31,10 +31,6 @@ one : pos 0 <ℤ pos 1
 one = lt_z_yes tt
 
 -- ---- a segment from w that turns away from a line through w has no other point on the line's left
-turn_between : (p q w z : Point) (k l : ℕ) → turn_of p q (mixed k l w z) ≡ pos k *ℤ turn_of p q w +ℤ pos l *ℤ turn_of p q z
-turn_between p q w z k l = solve_at 4 2 (λ p q w z k l. turn p q (plus k w (plus l z nothing))
-    ≐ k ⊗ turn p q w ⊕ l ⊗ turn p q z) tt p q w z (pos k) (pos l)
-
 not_left : (v t s k l tw tz : ℤ) → pos 0 <ℤ v → pos 0 ≤ℤ t → pos 0 <ℤ s → v *ℤ t ≡ s *ℤ (k *ℤ tw +ℤ l *ℤ tz)
     → tw ≡ pos 0 → tz <ℤ pos 0 → pos 0 <ℤ l → ⊥
 not_left = follows 7 (λ v t s k l tw tz. num (pos 0) ≺ v ⇒ num (pos 0) ≼ t ⇒ num (pos 0) ≺ s

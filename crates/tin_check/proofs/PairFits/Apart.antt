@@ -2,6 +2,7 @@
 use Rattle.std.proofs.Common.{below_more, ◌≡◌, inl, inr, ℕ, ◌<◌, ◌≤◌, ℤ, pos, ◌-ℤ◌, ◌<ℤ◌, true, List, [], ◌∷◌, ◌++◌}
 use Rattle.std.proofs.Common.{◌+◌, length, get_or, map, refl, sym, ap, ◌∙◌, subst, arith}
 use Rattle.std.proofs.lemmas.List.{get_or_default, get_or_append_left, get_or_push, length_push}
+use Rattle.plain_laws.proofs.Order.{one_of_three}
 use lib.Signed.{lt_z_yes}
 use Rattle.plane_base.specs.declared.shapes.Pt.{Pt}
 use Rattle.plane_base.specs.declared.shapes.Tri.{Tri}
@@ -17,7 +18,7 @@ use Rattle.tin_base.specs.Limits.{IsWithinLimits}
 use Rattle.tin_base.proofs.TriangleLemmas.TestAnswers.{yes}
 use Rattle.tin_check.specs.CommonPoints.{MeetOnlyIn}
 use Rattle.tin_check.specs.Marks.{points_of, marked_of, IsAmong, AreNearTris}
-use Rattle.tin_check.specs.InsideBoxes.{IsOneOf, IsBoxOf, IsBoxIn, AreBoxesIn}
+use Rattle.tin_check.specs.InsideBoxes.{IsBoxOf, IsBoxIn, AreBoxesIn}
 use Rattle.tin_check.proofs.TriangleTests.CornerShifts.{marked_among}
 use Rattle.tin_check.proofs.CallerLemmas.CornerMarks.{same_marked, told, all_near}
 use Rattle.plane_base.proofs.Bounds.BoxLemmas.{none_in_both}
@@ -61,19 +62,14 @@ apart_fit tin frame t u p q hp hq apart =
         (triangle_in s q hq.of x hx in_s))
 
 -- ---- the boxes of all triangles are near each other
-pick : (z a b c : ℤ) (P : ℤ → Type 0) → IsOneOf z a b c → P a → P b → P c → P z
-pick z a b c P (inl e) ha hb hc = subst P (sym e) ha
-pick z a b c P (inr (inl e)) ha hb hc = subst P (sym e) hb
-pick z a b c P (inr (inr e)) ha hb hc = subst P (sym e) hc
-
 -- a corner of one of the two
 abbrev IsOfBoth : Tri → Tri → Pt → Type 0
 IsOfBoth r s c = IsAmong (r.a ∷ r.b ∷ r.c ∷ s.a ∷ s.b ∷ s.c ∷ []) c
 
 span_of : (r s : Tri) (p q : Rect) → AreNearTris r s → IsBoxOf r p → IsBoxOf s q → IsWithinSpan p q
 span_of r s p q near hp hq = (
-  pick q.x1 s.a.x s.b.x s.c.x (λ z. (z -ℤ p.x0) <ℤ SPAN) hq.right (from_x s.a in_a) (from_x s.b in_b) (from_x s.c in_c),
-  pick q.y1 s.a.y s.b.y s.c.y (λ z. (z -ℤ p.y0) <ℤ SPAN) hq.top (from_y s.a in_a) (from_y s.b in_b) (from_y s.c in_c),
+  one_of_three q.x1 s.a.x s.b.x s.c.x (λ z. (z -ℤ p.x0) <ℤ SPAN) hq.right (from_x s.a in_a) (from_x s.b in_b) (from_x s.c in_c),
+  one_of_three q.y1 s.a.y s.b.y s.c.y (λ z. (z -ℤ p.y0) <ℤ SPAN) hq.top (from_y s.a in_a) (from_y s.b in_b) (from_y s.c in_c),
 )
   where
     in_a : IsOfBoth r s s.a
@@ -89,13 +85,13 @@ span_of r s p q near hp hq = (
     from_x c h =
         let a = near r.a c (inl refl) h in let b = near r.b c (inr (inl refl)) h in let d =
         near r.c c (inr (inr (inl refl))) h in
-        pick p.x0 r.a.x r.b.x r.c.x (λ z. (c.x -ℤ z) <ℤ SPAN) hp.left a.1 b.1 d.1
+        one_of_three p.x0 r.a.x r.b.x r.c.x (λ z. (c.x -ℤ z) <ℤ SPAN) hp.left a.1 b.1 d.1
 
     from_y : (c : Pt) → IsOfBoth r s c → (c.y -ℤ p.y0) <ℤ SPAN
     from_y c h =
         let a = near r.a c (inl refl) h in let b = near r.b c (inr (inl refl)) h in let d =
         near r.c c (inr (inr (inl refl))) h in
-        pick p.y0 r.a.y r.b.y r.c.y (λ z. (c.y -ℤ z) <ℤ SPAN) hp.bottom a.3 b.3 d.3
+        one_of_three p.y0 r.a.y r.b.y r.c.y (λ z. (c.y -ℤ z) <ℤ SPAN) hp.bottom a.3 b.3 d.3
 
 pub boxes_ordered : (tin : Triangulation) (frame : Frame) (boxes : List Rect)
     → AreBoxesIn tin frame (length tin.triangles) boxes → AreOrdered boxes

@@ -6,6 +6,7 @@ use Rattle.std.specs.List.{All, AllByRecursion}
 use Rattle.std.proofs.lemmas.List.Elements.{All-from_get_or}
 use Rattle.std.proofs.lemmas.Int.{ints}
 use Rattle.std.proofs.lemmas.List.{length-map}
+use Rattle.plain_laws.proofs.Lists.{all_push}
 use Rattle.jtext.specs.Values.{Json, Members, null, array}
 use Rattle.mm_decimal.specs.declared.limits.TheConstants.{LIMIT}
 use Rattle.mm_decimal.specs.declared.numerals.MmRead.{MmRead}
@@ -39,7 +40,6 @@ use Rattle.tin_file.specs.declared.faults.TinFault.TheVariants.{Row}
 use Rattle.tin_file.proofs.CallerLemmas.RowsRead.{ok_of, same_ok, number_reach, ReachOk}
 use Rattle.tin_file.proofs.CallerLemmas.Whole.{split_then}
 use Rattle.tin_file.proofs.VerticalComponent.TallRows.{corners_same}
-use Rattle.tin_file.proofs.VerticalComponent.TallWhole.{all_more}
 
 -- ---- one row
 abs_between : (z : ℤ) (n : ℕ) → neg_ℤ (pos n) ≤ℤ z → z ≤ℤ pos n → unsigned_abs z ≤ n
@@ -99,7 +99,7 @@ rows_small how columns earlier (value ∷ values) rows h small =
     (next_tall how columns earlier value) rows h in
     let (read, of, agrees) = split_then (agreeing earlier) (tall_of how columns (length earlier) value) one next in
     rows_small how columns (earlier ++ one ∷ []) values rows more
-    (grind (arith, all_more, tall_small))
+    (grind (arith, all_push, tall_small))
 
 vertices_small : (how : How) (columns : TallColumns) (members : Members) (rows : List TallVertex)
     → tall_vertices how columns members ≡ Ok rows → AllByRecursion HasSmall rows

@@ -4,6 +4,7 @@ use Rattle.std.proofs.Common.{subst, arith, length-append}
 use Rattle.std.specs.Prelude.{◌==◌, if◌then◌else◌, Result, Ok, Err}
 use Rattle.std.specs.List.{AllByRecursion}
 use Rattle.std.proofs.lemmas.List.{length-map, map-append}
+use Rattle.plain_laws.proofs.Lists.{all_push}
 use Rattle.jtext.specs.Values.{Json, Members, null, array}
 use Rattle.mm_decimal.specs.declared.numerals.MmRead.{MmRead}
 use Rattle.sheet_base.specs.declared.flags.How.{How}
@@ -66,10 +67,6 @@ tall_reach how columns row null one h = cc
 tall_reach how columns row _ one h = cc
 
 -- ---- all rows
-pub all_more : {A : Type 0} (P : A → Type 0) (xs : List A) (x : A) → AllByRecursion P xs → P x → AllByRecursion P (xs ++ x ∷ [])
-all_more P [] x h is = (is, tt)
-all_more P (y ∷ xs) x h is = (h.0, all_more P xs x h.1 is)
-
 record AreRowsFrom (earlier : List TallVertex) (values : List Json) (rows : List TallVertex) : Type 0 where
   reach : AllByRecursion CornerOk (tall_corners_in earlier) → AllByRecursion CornerOk (tall_corners_in rows)
   long : length rows ≡ length earlier + length values
@@ -82,7 +79,7 @@ rows_from how columns earlier (value ∷ values) rows h =
     (next_tall how columns earlier value) rows h in
     let (read, of, agrees) = split_then (agreeing earlier) (tall_of how columns (length earlier) value) one next in
     let rest = rows_from how columns (earlier ++ one ∷ []) values rows more in
-    grind (arith, tall_reach, map-append, all_more, length-append)
+    grind (arith, tall_reach, map-append, all_push, length-append)
 
 record AreTallVertices (rows : List TallVertex) : Type 0 where
   reach : AreInReach (corners_in (vertices_in rows))

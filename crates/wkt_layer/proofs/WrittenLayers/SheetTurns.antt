@@ -16,7 +16,7 @@ use Rattle.sheet_base.specs.Sheets.{Contents}
 use Rattle.sheet_base.specs.ImageFits.{Runs, run_begin, no_path, positions_in, path_positions, IsWithinReach, DoFit}
 use Rattle.sheet_base.specs.ReadBack.{row_of_images}
 use Rattle.sheet_base.proofs.ListParts.{all_parts}
-use Rattle.sheet_base.proofs.DrawnPaths.{IsPositionWithinReach, IsSome, all_positions, row_from, rows_of, part_reached}
+use Rattle.sheet_base.proofs.DrawnPaths.{IsPositionWithinReach, IsSome, all_positions, row_from, rows_of, part_reached, by_kind}
 use Rattle.sheet_base.proofs.DrawnPaths as sheets
 use Rattle.sheet_base.proofs.PositionLists.{paired_points, paired_heights}
 use Rattle.wkt_layer.specs.Tokens.{is_numeric}
@@ -92,14 +92,11 @@ texts_no_feed sheet images points heights edit =
     writing_no_feed sheet.paths images (part_reached images.points images.heights points heights) (writing_of edit.what)
 
 -- ---- the texts of edits are those of the paths' images
-says_kind : (rows : List PathRow) (images : Runs) (kind : PathKind) (nth : ℕ)
-    → what_text rows images (text_for kind nth) ≡ kind_text kind (path_positions rows images nth)
-says_kind rows images Dot nth = refl
-says_kind rows images _ nth = refl
-
 pub texts_say : (sheet : Contents) (images : Runs)
     → DoesSay (wkt_edit_text sheet images) (path_positions sheet.paths images)
-texts_say sheet images nth path = says_kind sheet.paths images path.kind nth
+texts_say sheet images nth path =
+    by_kind (λ kind. what_text sheet.paths images (text_for kind nth)
+    ≡ kind_text kind (path_positions sheet.paths images nth)) refl refl refl path.kind
 
 -- ---- what is drawn, as the rows, points and heights of a sheet
 drawn_count : (path : Path) → length (kept_points path) ≡ length (drawn path).positions

@@ -6,9 +6,10 @@ use Rattle.jtext.specs.Values.{array}
 use Rattle.jtext.specs.Places.{HasNodesAt}
 use Rattle.jtext.specs.declared.document.Kind.TheVariants as kinds
 use Rattle.jtext.specs.declared.document.Node.{Node}
+use Rattle.jtext.proofs.CallerLemmas.MemberLoops.{array_of}
 use Rattle.sheet_base.specs.declared.faults.LayerFault.TheVariants.{Shape}
 use Rattle.gj_layer.specs.declared.forms.ValueForm.TheVariants as forms
-use Rattle.gj_layer.proofs.Members.There.{seen, first_is, array_of, kind_there, kind_not_there}
+use Rattle.gj_layer.proofs.Members.There.{seen, first_is, kind_there, kind_not_there}
 use Rattle.gj_layer.proofs.OpenObjects.OpenValues.{no_array, list_opens, opens_same}
 use Rattle.gj_layer.proofs.layer_documents.open_list.Goals as goal
 

@@ -4,9 +4,10 @@ use Rattle.std.specs.Prelude.{Err}
 use Rattle.jtext.specs.Places.{HasNodesAt}
 use Rattle.jtext.specs.declared.document.Kind.TheVariants as kinds
 use Rattle.jtext.specs.declared.document.Node.{Node}
+use Rattle.jtext.proofs.CallerLemmas.MemberLoops.{array_of}
 use Rattle.sheet_base.specs.declared.faults.LayerFault.TheVariants.{Shape}
 use Rattle.gj_layer.specs.Positions.{position}
-use Rattle.gj_layer.proofs.Members.There.{first_is, array_of, kind_there, kind_not_there}
+use Rattle.gj_layer.proofs.Members.There.{first_is, kind_there, kind_not_there}
 use Rattle.gj_layer.proofs.Coordinates.PositionElements.{no_position}
 use Rattle.gj_layer.proofs.positions.read_position.Goals as goal
 

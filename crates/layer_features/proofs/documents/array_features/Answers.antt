@@ -3,9 +3,10 @@ use Rattle.std.proofs.Common.{◌≡◌, ◌+◌, sym, ap, ◌∙◌, subst, ari
 use Rattle.jtext.specs.Values.{array}
 use Rattle.jtext.specs.Nodes.{node_count}
 use Rattle.jtext.specs.Places.{HasNodesAt}
+use Rattle.jtext.proofs.CallerLemmas.MemberLoops.{array_of}
 use Rattle.layer_features.specs.JsonFeatures.{asked_for, array_features}
 use Rattle.layer_features.proofs.Found.{kind_is}
-use Rattle.layer_features.proofs.Elements.{array_of, not_array, array_there, array_end, some_next, next_inside}
+use Rattle.layer_features.proofs.Elements.{not_array, array_there, array_end, some_next, next_inside}
 use Rattle.layer_features.proofs.Elements.{going_in, next_element, next_at, next_further, going_ends}
 use Rattle.layer_features.proofs.documents.array_features.Goals as goal
 

@@ -5,8 +5,9 @@ use Rattle.jtext.specs.Nodes.{inner_place}
 use Rattle.jtext.specs.Places.{HasNodesAt, entries_at}
 use Rattle.jtext.specs.Lookups.{entries_of_key}
 use Rattle.jtext.proofs.CallerLemmas.MemberLoops.{object_of}
+use Rattle.jtext.proofs.CallerLemmas.NodePlaces.{value_at}
 use Rattle.layer_features.specs.JsonFeatures.{member_of}
-use Rattle.layer_features.proofs.Found.{kind_is, not_object, found_in_object, found_no_only, found_inside, value_at}
+use Rattle.layer_features.proofs.Found.{kind_is, not_object, found_in_object, found_no_only, found_inside}
 use Rattle.layer_features.proofs.nodes.member_of.Goals as goal
 
 pub member-requires-clause-kind : goal.member-requires-clause-kind
