@@ -28,7 +28,7 @@ pub fn is_kind(bytes: &[u8], kind: &[u8], entity: &Entity) -> bool
     value_in(bytes, &entity.head) == kind
 }
 
-/// Reads an entity that is no polyline with vertices of their own.
+/// Reads an entity of a kind of `is_read_alone`. One of another kind would be read as an INSERT.
 pub fn read_alone(source: &Source, entity: &Entity, drawing: &mut Drawing) -> Result<(), LayerFault>
     requires room { HoldsAtMost (2 ^ 30) (contents_of drawing.old) }
     requires few { length entity.now.pairs.now ≤ 2 ^ 29 }

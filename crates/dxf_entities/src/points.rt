@@ -200,7 +200,7 @@ fn rise_of(bytes: &[u8], exact: bool, entity: &Entity) -> Result<Option<Rise>, L
     unless_level(bytes, exact, entity, first, second)
 }
 
-/// The ends of a line, which has a next handle where it has one, and their heights, where they differ.
+/// The ends of a line, and their heights where they differ. A line with a handle is refused where no next handle is given.
 fn line_ends(
     bytes: &[u8],
     exact: bool,

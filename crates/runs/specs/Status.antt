@@ -17,7 +17,7 @@ code_of Memory = 8
 code_of Limit = 9
 code_of Uncertified = 10
 
--- how a run ends that has written all: by whether it lists a change
+-- how a run ends that has written all: by whether it lists a change or a change of sides
 abbrev pub end_of : Bool → Status
 end_of true = Changed
 end_of false = Same

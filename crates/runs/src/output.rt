@@ -21,9 +21,9 @@ pub struct LayerFile {
 pub struct RunOutput {
     /// The layers' files, in the order in which they are written.
     pub layers: Vec<LayerFile>,
-    /// The bytes on standard output: a report, or the line of a check.
+    /// The bytes on standard output: a report, or the one line of a check, of a verification or of a list of points.
     pub said: Listed<u8>,
-    /// Whether the report lists a change.
+    /// Whether the report lists a change or, where sides are asked for, a change of sides.
     pub changed: bool,
 }
 

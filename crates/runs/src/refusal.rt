@@ -15,7 +15,7 @@ use std::alloc::AllocError;
 use tin_check::CheckFault;
 use tin_file::TinFault;
 
-/// Why nothing was carried, or why a written layer is not verified. Layers are counted from 0.
+/// Why a run is refused. Layers are counted from 0.
 #[derive(Clone, Copy)]
 pub enum Refusal {
     /// The words are not understood.

@@ -3,9 +3,9 @@
 /// How a run ended.
 #[derive(Clone, Copy, Debug, PartialEq, Eq)]
 pub enum Status {
-    /// All is written and no change is listed.
+    /// All is written, and neither a change nor a change of sides is listed.
     Same,
-    /// All is written and at least one change is listed.
+    /// All is written, and a change or a change of sides is listed.
     Changed,
     /// The words are not understood.
     Words,

@@ -23,7 +23,7 @@ pub enum What {
     X { point: u32 },
     /// The y of the point's image.
     Y { point: u32 },
-    /// A vertex of a polyline for each crossing after the point.
+    /// The fields 10 and 20 of a vertex for each crossing after the point.
     Vertices { point: u32 },
     /// The number of images of the points from the number `first` to before the number `past`.
     Tally { first: u32, past: u32 },

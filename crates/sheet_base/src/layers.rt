@@ -30,7 +30,7 @@ pub trait Layer {
     /// What is written of the bytes' sheet with these images can be read back. A format may except some.
     ghost reads_back: { How → List ℕ → Contents → Runs → Type 0 };
 
-    /// How the heights of a segment's ends that are written, the first, are read again, as the second.
+    /// Whether heights of a segment's ends, written as the first, are read again as the second.
     ghost reads_heights: { Ends Height → Ends Height → Type 0 };
 
     /// The sheet of a layer, with its edits in order and apart from each other; or the layer's first

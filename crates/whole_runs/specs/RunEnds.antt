@@ -25,9 +25,9 @@ pub record HasRunMade (words : List (List ℕ)) (told : Option Files) (shelf_ros
   -- where the shelf states its files, a run ends in one of four ways: by its outcome, after a read fault, because
   -- memory ran out, or after a write fault
   pub ends : IfSome told (λ files. EndsTold words files shelf_rose press_rose status made)
-  -- Where all is written the job is done, and these files are made of it. They are the line of a sound triangulation
-  -- of a check, the line that says that the written layer is the source's of a verification, and the list with its
-  -- points moved of `heights`.
+  -- Where all is written the job is done, and these files are made of it: the layers' files and the report of a
+  -- migration, the report alone of `make`, the line of a check or of a verification, and the list with its points
+  -- moved, with its line, of `heights`.
   pub done : IfSome told (λ files. (job : Job) → IsJobOf words job → HasWrittenAll status
       → IfSome made (IsJobDone files job status))
   -- Where a migration ends with `Same`, each two segments of the written layers have the relation of their pieces in
