@@ -15,7 +15,7 @@ use crate::level_partners::tell;
 use crate::levels::Level;
 use crate::rects::{around_all, cut_to, level_of, put_into};
 use crate::searches::find;
-use number_groups::Groups;
+use number_groups::{Groups, sort_once};
 use plane_base::{Pt, Rect};
 use std::alloc::{AllocError, Global};
 use std::marker::Model;
@@ -135,13 +135,4 @@ impl Grid {
         tell(level, &self.cells, &self.boxes, number, found)?;
         Ok(())
     }
-}
-
-// Sorts numbers, and leaves each once.
-fn sort_once(numbers: &mut Vec<u32>)
-    ensures ascending { IsStrictlyIncreasing numbers.new.items }
-    ensures same { (number : ℕ) → Contains numbers.new.items number ↔ Contains numbers.old.items number }
-{
-    numbers.sort_unstable();
-    numbers.dedup();
 }

@@ -23,6 +23,6 @@ pub use laws::{
 };
 pub use lines::LINE_FEED;
 pub use readers::read_report;
-pub use report_texts::write_report;
+pub use report_texts::{put_place, put_relation, write_report};
 pub use reports::Report;
 pub use rows::LayerRow;

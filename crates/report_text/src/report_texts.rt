@@ -93,7 +93,8 @@ fn put_layers(out: &mut Vec<u8>, rows: &[LayerRow]) -> Result<(), AllocError>
     Ok(())
 }
 
-fn put_place(out: &mut Vec<u8>, place: Place) -> Result<(), AllocError>
+/// Adds the text of a place: the numbers of its layer, path, segment and piece.
+pub fn put_place(out: &mut Vec<u8>, place: Place) -> Result<(), AllocError>
     ensures text { OnOk result (out.new.items ≡ out.old.items ++ place_text place) }
     ensures held { IsPlaceHeld place }
 {
@@ -116,8 +117,8 @@ fn word_of(relation: Rel) -> &'static str
     }
 }
 
-// Adds a relation after a space.
-fn put_relation(out: &mut Vec<u8>, relation: Rel) -> Result<(), AllocError>
+/// Adds the word of a relation after a space.
+pub fn put_relation(out: &mut Vec<u8>, relation: Rel) -> Result<(), AllocError>
     ensures { OnOk result (out.new.items ≡ out.old.items ++ (codes " " ++ relation_word relation)) }
 {
     put(out, " ")?;

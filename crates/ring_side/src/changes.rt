@@ -1,7 +1,6 @@
 //! The changes of directions and sides of all rings and all points.
-ghost use Rattle.std.specs.Prelude.{◌≡◌, ◌↔◌, ◌<◌, ◌≤◌, ◌++◌, ℕ, length, vec_len, All, Contains, IfOk, OnOk, IsErrOf, IsTrue, flat_map};
+ghost use Rattle.std.specs.Prelude.{◌≡◌, ◌<◌, ◌≤◌, ◌++◌, length, vec_len, All, IfOk, OnOk, IsErrOf, IsTrue, flat_map};
 ghost use Rattle.std.specs.List.{AllByRecursion};
-ghost use Rattle.std.specs.List.Sorted.{IsStrictlyIncreasing};
 ghost use Rattle.sheet_base.specs.declared.paths.PathKind.TheVariants.{Loop};
 ghost use Rattle.tin_base.specs.declared.frames.Frame.TheVariants.{Source, Target};
 ghost use Rattle.ring_side.specs.declared.faults.SidesFault.TheVariants.{TooMany};
@@ -25,6 +24,7 @@ use crate::group_boxes::{boxes_of, place_of};
 use crate::groups::{Group, groups_of};
 use crate::orders::order_of;
 use crate::{Side, SideChange, SidesFault, Spot, way_of};
+use number_groups::sort_once;
 use plane_base::Rect;
 use sheet_base::{Images, PathKind, Sheet, between};
 use std::alloc::{AllocError, Global};
@@ -338,15 +338,6 @@ fn is_same_side(was: Side, now: Side) -> bool
     ensures { result ≡ is_same_side was now }
 {
     was == now
-}
-
-// Sorts numbers, and leaves each once.
-fn sort_once(numbers: &mut Vec<u32>)
-    ensures ascending { IsStrictlyIncreasing numbers.new.items }
-    ensures same { (number : ℕ) → Contains numbers.new.items number ↔ Contains numbers.old.items number }
-{
-    numbers.sort_unstable();
-    numbers.dedup();
 }
 
 // Adds the points of a group that are on another side of a ring.

@@ -1,6 +1,6 @@
 -- The lemmas of tin_check, in folders by subject.
 mod TriangleTests
-mod PairFits
+pub mod PairFits
 mod BorderLemmas
 pub mod CallerLemmas
 mod Outcomes

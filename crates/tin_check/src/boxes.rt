@@ -1,7 +1,7 @@
 //! The box of a triangle in a frame, and the grid over the boxes of all.
 
 ghost use Rattle.std.specs.Prelude.{◌<◌, length, IfOk};
-ghost use Rattle.tin_check.specs.InsideBoxes.{IsBoxIn, AreBoxesIn};
+ghost use Rattle.tin_check.specs.TriangleBoxes.{IsBoxIn, AreBoxesIn};
 
 use cell_grid::Grid;
 use plane_base::Rect;
@@ -9,7 +9,7 @@ use std::alloc::{AllocError, Global};
 use tin_base::{Frame, Tin};
 
 /// A grid over the boxes of all triangles in a frame, in order.
-pub(crate) fn grid_in(alloc: Global, tin: &Tin, frame: Frame) -> Result<Grid, AllocError>
+pub fn grid_in(alloc: Global, tin: &Tin, frame: Frame) -> Result<Grid, AllocError>
     ensures { IfOk result (λ grid. AreBoxesIn tin.now frame (length tin.now.triangles) grid.boxes) }
 {
     let mut boxes = Vec::with_capacity(alloc, tin.triangles().len())?;
@@ -21,7 +21,7 @@ pub(crate) fn grid_in(alloc: Global, tin: &Tin, frame: Frame) -> Result<Grid, Al
 }
 
 /// The box of a triangle in a frame, in millimetres.
-pub(crate) fn box_in(tin: &Tin, triangle: u32, frame: Frame) -> Rect
+pub fn box_in(tin: &Tin, triangle: u32, frame: Frame) -> Rect
     requires { triangle < length tin.now.triangles }
     ensures { IsBoxIn tin.now frame triangle result }
 {

@@ -17,6 +17,7 @@ mod side_orders;
 mod side_trees;
 mod triangle_fits;
 
+pub use boxes::{box_in, grid_in};
 pub use checks::check_tin;
 pub use faults::CheckFault;
 pub use laws::{faults_are_unsound, first_fault_is_one, outcome_exists};

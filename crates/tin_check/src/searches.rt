@@ -3,7 +3,7 @@
 ghost use Rattle.std.specs.Prelude.{◌≡◌, ◌+◌, ◌<◌, ◌≤◌, false, length, All, IfOk, IsTrue};
 ghost use Rattle.std.specs.List.Sorted.{IsStrictlyIncreasing};
 ghost use Rattle.tin_base.specs.Soundness.{DoFit};
-ghost use Rattle.tin_check.specs.InsideBoxes.{AreBoxesIn};
+ghost use Rattle.tin_check.specs.TriangleBoxes.{AreBoxesIn};
 ghost use Rattle.tin_check.specs.InsideProgress.{ArePositive, DoFitBefore, DoAllFit, IsFirstFound, IsFirstFoundBelow};
 ghost use Rattle.tin_check.specs.InsideProgress.{IsFirstSecond, DoOthersFit};
 

@@ -30,7 +30,7 @@ pub has_common : (ks ns : List ℕ) (k : ℕ) → has (common ks ns) k ≡ (has 
 has_common [] ns k = refl
 has_common (q ∷ ks) ns k = grind (arith, eqb_tells, has_common ks ns k)
 
-pub mix_same : (tin : Triangulation) (frame : Frame) (ns ks : List ℕ) (p : Point)
+mix_same : (tin : Triangulation) (frame : Frame) (ns ks : List ℕ) (p : Point)
     → ((k : ℕ) → has ks k ≡ true → has ns k ≡ true) → IsMix p (places tin frame ks) → IsMix p (places tin frame ns)
 mix_same tin frame ns ks p h m = mix_more tin frame ns ks p (has_all ns ks h) m
 

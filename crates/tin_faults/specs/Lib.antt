@@ -5,5 +5,4 @@ pub use Rattle.tin_check.specs.Faults as TinCheckFaults
 pub mod Faults
 pub mod Laws
 pub mod InsideProgress
-pub mod InsideBoxes
 pub mod InsidePairs

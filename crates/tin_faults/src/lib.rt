@@ -2,7 +2,6 @@
 //! not fit together there.
 #![tactic(auto)]
 
-mod boxes;
 mod faults;
 mod laws;
 mod lists;

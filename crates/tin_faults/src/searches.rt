@@ -8,7 +8,6 @@ ghost use Rattle.tin_faults.specs.declared.faults.ListFault.TheVariants.{TooMany
 ghost use Rattle.tin_faults.specs.Faults.{AreFaults, HasMoreFaults};
 ghost use Rattle.tin_faults.specs.InsideProgress.{HasFaultsBefore, IsPassed, triangle_key, pair_key, DoListOverlaps};
 
-use crate::boxes::{box_in, grid_in};
 use crate::lists::add;
 use crate::triangle_pairs::do_overlap;
 use crate::turns::turn_fault;
@@ -16,7 +15,7 @@ use crate::{Fault, ListFault};
 use plane_base::boxes_share_a_point_or_are_apart;
 use std::alloc::{AllocError, Global};
 use tin_base::{Frame, Tin};
-use tin_check::check_tin;
+use tin_check::{box_in, check_tin, grid_in};
 
 /// All faults of a triangulation, each once. Those of triangles come first, in the source and then in the target, by
 /// number. Those of pairs follow, in the same order of the frames, by the first and the second number. A sound

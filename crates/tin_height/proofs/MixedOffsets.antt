@@ -1,10 +1,11 @@
 -- The offset that a point's turns with the sides of its triangle give, and how large it is.
-use Rattle.std.proofs.Common.{◌≡◌, ℕ, ◌<◌, ◌≤◌, ◌*◌, ◌-◌, ℤ, pos, negsuc, ◌+ℤ◌, ◌*ℤ◌, ◌≤ℤ◌, ◌<ℤ◌, neg_ℤ, unsigned_abs}
+use Rattle.std.proofs.Common.{◌≡◌, ℕ, ◌<◌, ◌≤◌, ◌*◌, ◌-◌, ℤ, pos, negsuc, ◌+ℤ◌, ◌*ℤ◌, ◌≤ℤ◌, ◌<ℤ◌, neg_ℤ, unsigned_abs, SFits}
 use Rattle.std.specs.List.{All}
-use Rattle.std.proofs.Common.{zero, suc, List, [], ◌∷◌, length, get_or, sum, refl, sym, ap, ◌∙◌, subst, arith}
+use Rattle.std.proofs.Common.{zero, suc, List, [], ◌∷◌, length, get_or, sum, refl, sym, ap, ap₂, ◌∙◌, subst, arith}
 use Rattle.std.proofs.lemmas.Int.{ints}
 use Rattle.std.proofs.Math.ListN.{length-map}
 use lib.Signed.{lt_z_yes}
+use mir.Syntax.{w64}
 use Rattle.integer_ring.proofs.Ring.{num, ◌⊕◌, ◌⊗◌}
 use Rattle.integer_ring.proofs.Claims.{◌≐◌, ◌≼◌, gap, eqn, ◌⊞◌, ◌⊠◌, ◌because◌, ◌⇒◌, follows}
 use Rattle.frac128.specs.Rounding.{half_up_of}
@@ -20,6 +21,7 @@ use Rattle.tin_base.specs.Triangulation.{Triangulation, place, corner_at, places
 use Rattle.tin_base.proofs.FrameImages.Weights.{total-ones}
 use Rattle.frac128.proofs.Nearest.{within}
 use Rattle.tin_base.specs.Limits.{IsWithinLimits}
+use Rattle.affine_image.proofs.HeightLemmas.{rise_fits}
 use Rattle.affine_image.proofs.HalfUp.{rounded_not_below, rounded_not_above}
 use Rattle.tin_height.specs.Offsets.{offset_in, weighed_offset, IsRoundedOffset, AreOffsets}
 use Rattle.tin_height.specs.InsideOffsets.{mixed_by_turns}
@@ -55,7 +57,7 @@ above_limit z h = omega (arith, ints)
 between : (r : ℤ) → neg_ℤ (pos (2 * LIMIT)) ≤ℤ r → r ≤ℤ pos (2 * LIMIT) → unsigned_abs r ≤ 2 * LIMIT
 between r h k = omega (arith, ints)
 
-pub mixed_small : (t : Tri) (p : Pt) (a b c : ℤ) → pos 0 <ℤ turn_of (whole t.a) (whole t.b) (whole t.c) → holds_of t p
+mixed_small : (t : Tri) (p : Pt) (a b c : ℤ) → pos 0 <ℤ turn_of (whole t.a) (whole t.b) (whole t.c) → holds_of t p
     → unsigned_abs a ≤ 2 * LIMIT → unsigned_abs b ≤ 2 * LIMIT → unsigned_abs c ≤ 2 * LIMIT
     → unsigned_abs (half_up_of (mixed_by_turns t p a b c) (turn_of (whole t.a) (whole t.b) (whole t.c))) ≤ 2 * LIMIT
 mixed_small t p a b c h inside x y z =
@@ -67,6 +69,22 @@ mixed_small t p a b c h inside x y z =
     (low _ _ _ d a b c _ s.1 s.2 s.0 split (above_limit a x) (above_limit b y) (above_limit c z)))
     (rounded_not_above (mixed_by_turns t p a b c) d (pos (2 * LIMIT)) h
     (high _ _ _ d a b c _ s.1 s.2 s.0 split (below_limit a x) (below_limit b y) (below_limit c z)))
+
+-- the rounded mix of three offsets, how large it is, and that 64 bits hold it
+pub record IsRounded (t : Tri) (p : Pt) (a b c r : ℤ) : Type 0 where
+  pub value : r ≡ half_up_of (mixed_by_turns t p a b c) (turn_of (whole t.a) (whole t.b) (whole t.c))
+  pub size : unsigned_abs r ≤ 2 * LIMIT
+  pub fits : SFits w64 r
+
+pub rounded : (t : Tri) (p : Pt) (a b c r mixed turn : ℤ) → pos 0 <ℤ turn_of (whole t.a) (whole t.b) (whole t.c)
+    → holds_of t p → unsigned_abs a ≤ 2 * LIMIT → unsigned_abs b ≤ 2 * LIMIT → unsigned_abs c ≤ 2 * LIMIT
+    → mixed ≡ mixed_by_turns t p a b c → turn ≡ turn_of (whole t.a) (whole t.b) (whole t.c)
+    → r ≡ half_up_of mixed turn → IsRounded t p a b c r
+rounded t p a b c r mixed turn h inside x y z mixes turns rounds =
+    let is = rounds ∙ ap₂ half_up_of mixes turns in
+    let small : unsigned_abs r ≤ 2 * LIMIT = subst (λ (i : ℤ). unsigned_abs i ≤ 2 * LIMIT) (sym is)
+    (mixed_small t p a b c h inside x y z) in
+    record { value = is; size = small; fits = rise_fits r small }
 
 -- ---- the offset
 on_offset : (k l m u v r d a b c : ℤ)

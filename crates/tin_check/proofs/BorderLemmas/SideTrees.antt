@@ -13,7 +13,7 @@ use Rattle.plane_base.specs.declared.shapes.Rect.{Rect}
 use Rattle.plane_base.specs.declared.shapes.Tri.{Tri}
 use Rattle.plane_base.specs.declared.shapes.TheConstants.{SPAN}
 use Rattle.plane_base.specs.Plane.{Point, whole, turn_of, IsMix, IsNear, IsNearAll, corners_of}
-use Rattle.tin_check.specs.InsideBoxes.{IsBoxIn}
+use Rattle.tin_check.specs.TriangleBoxes.{IsBoxIn}
 use Rattle.plane_base.specs.Boxes.{IsIn, AreIn, HasBox, AreApart, box_of_segment, box_of_boxes}
 use Rattle.plane_base.proofs.Bounds.BoxLemmas.{segment_has, whole_in, mix_in, joined_has, none_in_both, three_places}
 use Rattle.plane_base.proofs.Bounds.BoxLemmas.{in_larger}
@@ -25,6 +25,7 @@ use Rattle.tin_base.specs.Limits.{IsWithinLimits}
 use Rattle.tin_base.proofs.TriangleLemmas.Members.{one_of_three}
 use Rattle.tin_base.proofs.TriangleLemmas.TriangleCorners.{near_points}
 use Rattle.border_law.specs.Borders.{MeetAtCorner, BorderedTrianglesFit}
+use Rattle.tin_check.proofs.PairFits.InBoxes.{places_in}
 use Rattle.tin_check.specs.InsideProgress.{ArePositive, DoAllFit}
 use Rattle.tin_check.specs.declared.borders.BorderSide.{BorderSide}
 use Rattle.tin_check.specs.InsideBorders.{AreSides, HasMore, IsBorderOf, IsSideIn, IsSideBox, DoesMeet, no_side, side_at}
@@ -256,7 +257,7 @@ pub first_in : (tin : Triangulation) (frame : Frame) (n : ℕ) (box : Rect) → 
     → AreTrianglesIn tin frame n (n + 1) box
 first_in tin frame n box is t from to =
     subst (λ (u : ℕ). AreIn box (places tin frame (numbers_of tin u))) (same t from to)
-    (subst (λ (ps : List Point). AreIn box ps) is.is is.of.inside)
+    (places_in tin frame n box is)
   where
     same : (k : ℕ) → n ≤ k → k < n + 1 → n ≡ k
     same k h l = omega arith

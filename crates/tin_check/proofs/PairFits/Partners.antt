@@ -12,7 +12,7 @@ use Rattle.cell_grid.specs.Grids.{Boxes}
 use Rattle.tin_base.specs.declared.frames.Frame.{Frame}
 use Rattle.tin_base.specs.Triangulation.{Triangulation}
 use Rattle.tin_base.specs.Soundness.{DoFit}
-use Rattle.tin_check.specs.InsideBoxes.{IsBoxIn, AreBoxesIn}
+use Rattle.tin_check.specs.TriangleBoxes.{IsBoxIn, AreBoxesIn}
 use Rattle.tin_check.specs.InsideProgress.{ArePositive, DoAllFit, DoOthersFit}
 use Rattle.plane_base.proofs.Bounds.BoxLemmas.{apart_or_not}
 use Rattle.tin_check.proofs.PairFits.InBoxes.{box_ordered}
@@ -26,7 +26,7 @@ shared_or_fit tin frame t u p q law hp hq = go (apart_or_not p q)
   where
     go : AreApart p q ⊎ (AreApart p q → ⊥) → ShareAPoint p q ⊎ DoFit tin frame t u
     go (inl apart) = inr (apart_fit tin frame t u p q hp hq apart)
-    go (inr shared) = inl ((law p q (box_ordered hp.tri p hp.of) (box_ordered hq.tri q hq.of)).shared.1 shared)
+    go (inr shared) = inl ((law p q (box_ordered hp.tri p hp.is) (box_ordered hq.tri q hq.is)).shared.1 shared)
 
 turned : (p q : Rect) → ShareAPoint p q → ShareAPoint q p
 turned p q shared = (shared.0, shared.2, shared.1)

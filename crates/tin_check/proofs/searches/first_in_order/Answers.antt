@@ -6,7 +6,7 @@ use Rattle.tin_check.proofs.CallerLemmas.Progress.{fit_below}
 use Rattle.tin_check.proofs.searches.first_in_order.Goals as goal
 
 pub near-requires : goal.near-requires
-near-requires c = let is = c.box_in.ensures in box_ordered is.tri c.box_in.result is.of
+near-requires c = let is = c.box_in.ensures in box_ordered is.tri c.box_in.result is.is
 
 pub first_unfit-requires-clause-in_range : goal.first_unfit-requires-clause-in_range
 first_unfit-requires-clause-in_range c = near_in_range c.args.tin.now c.args.frame c.args.grid.now.boxes c.box_in.result

@@ -24,15 +24,13 @@ returns-then-not-holds_object c whole read =
 pub read_tall_heading-requires-clause-object : goal.read_tall_heading-requires-clause-object
 read_tall_heading-requires-clause-object c =
     let (whole, read) = c.requires in
-    let there = whole_there whole c.args.doc.now c.args.bytes.now read in
-    object_kind c.args.doc.now.nodes c.args.bytes.now whole.value there
-    (sym c.if-not-holds_object.false ∙ c.holds_object.ensures c.args.bytes.now whole.value there)
+    object_kind whole c.args.doc.now c.args.bytes.now read c.holds_object.result c.holds_object.ensures
+    c.if-not-holds_object.false
 
 pub returns-in_err-columns : goal.returns-in_err-columns
 returns-in_err-columns c whole read =
-    let there = whole_there whole c.args.doc.now c.args.bytes.now read in
-    let (members, h, (blank, value_is)) = object_members c.args.doc.now.nodes c.args.bytes.now whole.value there
-    (sym c.if-not-holds_object.false ∙ c.holds_object.ensures c.args.bytes.now whole.value there) in
+    let (members, h, (blank, value_is)) = object_members whole c.args.doc.now c.args.bytes.now read
+    c.holds_object.result c.holds_object.ensures c.if-not-holds_object.false in
     let fault = c.in_err-columns.field-0.0 in
     rw (passed_on fault c.from_residual.result c.from_residual.ensures.1, ap (tall_reading c.args.how) value_is)
     (fault_stays (λ one other. one ≡ other) (λ one other. one ≡ other) (tall_rows_of c.args.how members) fault
@@ -41,15 +39,13 @@ returns-in_err-columns c whole read =
 pub read_tall_rows-requires-clause-object : goal.read_tall_rows-requires-clause-object
 read_tall_rows-requires-clause-object c =
     let (whole, read) = c.requires in
-    let there = whole_there whole c.args.doc.now c.args.bytes.now read in
-    object_kind c.args.doc.now.nodes c.args.bytes.now whole.value there
-    (sym c.if-not-holds_object.false ∙ c.holds_object.ensures c.args.bytes.now whole.value there)
+    object_kind whole c.args.doc.now c.args.bytes.now read c.holds_object.result c.holds_object.ensures
+    c.if-not-holds_object.false
 
 pub returns : goal.returns
 returns c whole read =
-    let there = whole_there whole c.args.doc.now c.args.bytes.now read in
-    let (members, h, (blank, value_is)) = object_members c.args.doc.now.nodes c.args.bytes.now whole.value there
-    (sym c.if-not-holds_object.false ∙ c.holds_object.ensures c.args.bytes.now whole.value there) in
+    let (members, h, (blank, value_is)) = object_members whole c.args.doc.now c.args.bytes.now read
+    c.holds_object.result c.holds_object.ensures c.if-not-holds_object.false in
     rw (ap (tall_reading c.args.how) value_is)
     (then_made (λ one other. one ≡ other) (λ one other. one ≡ other) (tall_rows_of c.args.how members)
     c.in_ok-columns.columns (tall_heading c.args.how members) c.read_tall_rows.result

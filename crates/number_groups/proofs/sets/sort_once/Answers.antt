@@ -1,9 +1,9 @@
--- Answers to the goals of `sort_once` in src/changes.rt.
+-- Answers to the goals of `sort_once` in src/sets.rt.
 use Rattle.std.proofs.lemmas.List.Filters.{dedup_is}
 use Rattle.std.proofs.lemmas.List.Kept.{Contains-dedup_nat, Contains-from_dedup}
 use Rattle.std.proofs.lemmas.List.Sorted.{Contains-permutation, IsPermutation-sym}
 use Rattle.std.proofs.lemmas.Map.Keys.{IsStrictlyIncreasing-dedup}
-use Rattle.ring_side.proofs.changes.sort_once.Goals as goal
+use Rattle.number_groups.proofs.sets.sort_once.Goals as goal
 
 pub returns : goal.returns
 returns c =
