@@ -1,7 +1,6 @@
 -- The files of lemmas of change_places.
 mod Elements
 mod MoreElements
-mod Parts
 mod MoreNames
 mod Rooms
 mod FeatureLengths

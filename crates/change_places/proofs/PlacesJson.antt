@@ -1,5 +1,5 @@
 -- The text of changes on the map is that of their value, and of no other.
-use Rattle.std.proofs.Common.{◌≡◌, ℕ, [], ◌∷◌, IsUtf8, ◌<◌, ◌^◌, List, length, map, inr, inl, refl, sym, ap, ap₂, ◌∙◌}
+use Rattle.std.proofs.Common.{ℕ, [], ◌∷◌, IsUtf8, ◌<◌, ◌^◌, List, length, map, inr, inl, refl, sym, ap₂, ◌∙◌}
 use Rattle.std.proofs.Common.{arith, suc}
 use Rattle.std.specs.List.{AllByRecursion}
 use Rattle.jtext.specs.Texts.{IsWhole}
@@ -49,7 +49,3 @@ pub all_of_map : {A B : Type 0} (P : B → Type 0) (f : A → B) (xs : List A) �
     → AllByRecursion P (map f xs)
 all_of_map P f [] all = tt
 all_of_map P f (x ∷ xs) all = (all.0, all_of_map P f xs all.1)
-
-pub count_of_map : {A B : Type 0} (f : A → B) (xs : List A) → length (map f xs) ≡ length xs
-count_of_map f [] = refl
-count_of_map f (x ∷ xs) = ap suc (count_of_map f xs)

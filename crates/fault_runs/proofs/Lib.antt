@@ -1,5 +1,4 @@
 -- The files of lemmas of fault_runs.
-mod Parts
 mod MoreFeatures
 mod WordsOfCheck
 mod SpotPlaces

@@ -126,7 +126,8 @@ pub record IsChangeGood (change : Change) : Type 0 where
   pub held : IsChangeHeld change
   pub changed : IsChanged change
 
-all_in_a_row : (w a s b x r y t : List ℕ) → concat (w ∷ a ∷ s ∷ b ∷ x ∷ r ∷ y ∷ t ∷ []) ≡ w
+-- eight texts in a row, of which two pairs are joined before
+pub all_in_a_row : (w a s b x r y t : List ℕ) → concat (w ∷ a ∷ s ∷ b ∷ x ∷ r ∷ y ∷ t ∷ []) ≡ w
     ++ (a ++ (s ++ (b ++ ((x ++ r) ++ ((y ++ t) ++ [])))))
 all_in_a_row w a s b x r y t = simp (append_assoc, append-nil) refl
 

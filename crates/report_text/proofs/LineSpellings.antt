@@ -8,6 +8,7 @@ use Rattle.std.proofs.lemmas.Option.{option_and_then_some}
 use Rattle.std.specs.Cmp.Lexicographic.{same_text}
 use Rattle.std.specs.List.{AllByRecursion}
 use Rattle.std.specs.Str.{bytes_eq}
+use Rattle.plain_laws.proofs.Lists.{all_push}
 use Rattle.tin_base.specs.declared.pieces.Change.{Change}
 use Rattle.ring_side.specs.declared.kinds.SideChange.{SideChange}
 use Rattle.text_places.specs.Machine.{run}
@@ -90,11 +91,6 @@ IsStateHeld (at_end tin rows changes sides) = AreAllHeld tin rows changes sides
 pub record Spells (state : State) (line : List ℕ) (next : State) : Type 0 where
   pub lines : spelled next ≡ spelled state ++ line ∷ []
   pub held : IsStateHeld next
-
-all_and_one : {A : Type 0} (P : A → Type 0) (xs : List A) (x : A) → AllByRecursion P xs → P x
-    → AllByRecursion P (xs ++ x ∷ [])
-all_and_one P [] x all one = (one, tt)
-all_and_one P (y ∷ xs) x all one = (all.0, all_and_one P xs x all.1 one)
 
 one_title : (line : List ℕ) (next : State) (sided : Bool) → bytes_eq line (title sided) ≡ true → at_tin sided ≡ next
     → Spells at_title line next
@@ -195,7 +191,7 @@ row_held : (tin : TinRow) (rows : List LayerRow) (row : LayerRow) → IsRowReady
     → AreLayersHeld tin (rows ++ row ∷ [])
 row_held tin rows row ready = record {
   tin_held = ready.layers.tin_held;
-  rows_held = all_and_one IsRowHeld rows row ready.layers.rows_held ready.held;
+  rows_held = all_push IsRowHeld rows row ready.layers.rows_held ready.held;
   numbered = rw length-append (omega (arith, ready.small));
 }
 
@@ -211,7 +207,7 @@ row_spells tin rows row line next true ready of_extents is =
           ∷ []) (sym same);
       held = record {
         tin_held = ready.layers.tin_held;
-        rows_held = all_and_one IsRowHeld rows (drawing_row row) ready.layers.rows_held (drawn_held row ready.held);
+        rows_held = all_push IsRowHeld rows (drawing_row row) ready.layers.rows_held (drawn_held row ready.held);
         numbered = rw length-append (omega (arith, ready.small));
       };
     })
@@ -238,7 +234,7 @@ changes_spell tin rows changes left line next (Some change) held read is =
       held = record {
         layers = held.layers;
         good =
-            all_and_one IsChangeGood changes change held.good taken.good;
+            all_push IsChangeGood changes change held.good taken.good;
         counted =
             subst (λ n. n < 2 ^ 64) (sym count) held.counted;
       };
@@ -321,7 +317,7 @@ sides_spell tin rows changes sides left line next (Some side) held read is =
       held = record {
         before = held.before;
         told = held.told;
-        good = all_and_one IsSideGood sides side held.good taken.good;
+        good = all_push IsSideGood sides side held.good taken.good;
         counted = subst (λ n. n < 2 ^ 64) (sym count) held.counted;
       };
     })

@@ -25,7 +25,7 @@ use Rattle.report_text.specs.Reports.{IsRingHeld, IsSpotHeld, IsSideHeld}
 use Rattle.text_fields.proofs.StepChains.{bound, some_is, let_through}
 use Rattle.text_fields.proofs.FieldLaws.{long_again, long_takes, short_again, short_takes}
 use Rattle.text_fields.proofs.Words.{after_takes}
-use Rattle.report_text.proofs.ChangeLaws.{neither}
+use Rattle.report_text.proofs.ChangeLaws.{neither, all_in_a_row}
 
 -- ---- rings and points
 
@@ -204,10 +204,6 @@ turn_in_a_row : (w a x r y t : List ℕ) → concat (w ∷ a ∷ x ∷ r ∷ y �
     ++ (a ++ ((x ++ r) ++ ((y ++ t) ++ [])))
 turn_in_a_row w a x r y t = simp (append_assoc, append-nil) refl
 
-point_in_a_row : (w a s b x r y t : List ℕ) → concat (w ∷ a ∷ s ∷ b ∷ x ∷ r ∷ y ∷ t ∷ []) ≡ w
-    ++ (a ++ (s ++ (b ++ ((x ++ r) ++ ((y ++ t) ++ [])))))
-point_in_a_row w a s b x r y t = simp (append_assoc, append-nil) refl
-
 turn_is : (layer path : ℕ) (was now : Way)
     → turn_line layer path was now
     ≡ codes "turn " ++ (ring_text layer path ++ (spaced_way was ++ (spaced_way now ++ [])))
@@ -221,7 +217,7 @@ point_is : (layer path : ℕ) (at : Spot) (was now : Side)
     ++ (spot_text at ++ (spaced_side was ++ (spaced_side now ++ [])))))
 unfolding point_line
 point_is layer path at was now =
-    point_in_a_row (codes "side ") (ring_text layer path) (codes " ") (spot_text at) (codes " ") (side_word was)
+    all_in_a_row (codes "side ") (ring_text layer path) (codes " ") (spot_text at) (codes " ") (side_word was)
     (codes " ") (side_word now)
 
 turn_again : (layer path : ℕ) (was now : Way) → IsRingHeld layer path → was ≢ now

@@ -16,7 +16,7 @@ use Rattle.tin_file.specs.declared.faults.TinFault.TheVariants.{NoMemory as TinM
 use Rattle.runs.specs.declared.loads.TheConstants.{MOST_BYTES}
 use Rattle.runs.specs.declared.refusal.Refusal.{Refusal}
 use Rattle.runs.specs.declared.refusal.Refusal.TheVariants.{TinUnread, TinLong, Tin, Check}
-use Rattle.runs.specs.Triangulations.{IsTin, LacksTin, IsUnsound, HasFile, HasLongFile, HasTin, directed_tin}
+use Rattle.runs.specs.Triangulations.{IsTin, LacksTin, IsUnsound, HasFile, HasLongFile, HasTin, HasDirected, directed_tin}
 use Rattle.runs.specs.Laws.{IsTinEnd, TinEndIsOne}
 
 -- a file is missing, too long or read
@@ -139,3 +139,8 @@ sound_of files how name tin (text, file, is) = is.sound
 pub sound_way : (inverse : Bool) (tin : Triangulation) → IsSound tin → IsSound (directed_tin inverse tin)
 sound_way false tin sound = sound
 sound_way true tin sound = turned_sound tin sound
+
+pub way_sound : (files : Files) (how : How) (name : List ℕ) (inverse : Bool) (tin : Triangulation)
+    → HasDirected files how name inverse tin → IsSound tin
+way_sound files how name inverse tin (stood, has, is) =
+    subst (λ (t : Triangulation). IsSound t) (sym is) (sound_way inverse stood (sound_of files how name stood has))

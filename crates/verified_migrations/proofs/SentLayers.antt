@@ -17,7 +17,7 @@ use Rattle.runs.specs.declared.loads.TheConstants.{MOST_BYTES}
 use Rattle.runs.specs.declared.status.Status.TheVariants.{Same}
 use Rattle.runs.specs.Output.{name_in}
 use Rattle.runs.specs.Triangulations.{HasDirected, IsTin, directed_tin}
-use Rattle.runs.proofs.OneTin.{sound_of, sound_way}
+use Rattle.runs.proofs.OneTin.{way_sound}
 use Rattle.carry_map.specs.declared.layers.Carried.{Carried}
 use Rattle.job_words.specs.declared.formats.Format.{Format}
 use Rattle.layer_formats.specs.LayerOutcomes.{IsLayerText}
@@ -98,11 +98,6 @@ plus_one n = omega arith
 
 rest_within : (used more most : ℕ) → used + more ≤ most → more ≤ most
 rest_within used more most h = omega (arith, h)
-
-sound_here : (files : Files) (how : How) (name : List ℕ) (inverse : Bool) (tin : Triangulation)
-    → HasDirected files how name inverse tin → IsSound tin
-sound_here files how name inverse tin (stood, has, is) =
-    subst (λ (t : Triangulation). IsSound t) (sym is) (sound_way inverse stood (sound_of files how name stood has))
 
 limits_here : ReadTinsAreWithinLimits → (files : Files) (how : How) (name : List ℕ) (inverse : Bool)
     (tin : Triangulation) → HasDirected files how name inverse tin → IsWithinLimits tin
@@ -196,7 +191,7 @@ migrations_verified rightly within files migration status made number received v
               (certified_here rightly migration.how tin here.done.format here.bytes here.number here.before here.after
               here.done.pieces here.done.carried
               (limits_here within files migration.how migration.tin migration.inverse tin way)
-              (sound_here files migration.how migration.tin migration.inverse tin way) next.carried next.own)));
+              (way_sound files migration.how migration.tin migration.inverse tin way) next.carried next.own)));
           status_is = refl;
           made_is = refl;
         }

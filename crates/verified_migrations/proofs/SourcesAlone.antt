@@ -30,7 +30,7 @@ use Rattle.runs.specs.declared.refusal.Refusal.TheVariants.{LayerUnread, LayersL
 use Rattle.runs.specs.Laws.{TinEndIsOne}
 use Rattle.runs.specs.Output.{name_in}
 use Rattle.runs.specs.Triangulations.{HasDirected, IsTinRefused, directed_tin}
-use Rattle.runs.proofs.OneTin.{sound_of, sound_way}
+use Rattle.runs.proofs.OneTin.{way_sound}
 use Rattle.migrate_mode.specs.declared.migrations.Migration.{Migration}
 use Rattle.migrate_mode.specs.LayerOutcomes.{IsCarried, IsOutside}
 use Rattle.migrate_mode.specs.LayerRuns.{setting_of, Done, IsLayerFile, AreCarried, IsNextRefused}
@@ -159,11 +159,6 @@ way_or_not : TinEndIsOne → (files : Files) (how : How) (name : List ℕ) (inve
     (refusal : Refusal) → HasDirected files how name inverse tin → IsTinRefused files how name refusal → ⊥
 way_or_not tins files how name inverse tin refusal (stood, has, is) why =
     ok_or_err stood refusal (tins files how name (Ok stood) (Err refusal) has why)
-
-way_sound : (files : Files) (how : How) (name : List ℕ) (inverse : Bool) (tin : Triangulation)
-    → HasDirected files how name inverse tin → IsSound tin
-way_sound files how name inverse tin (stood, has, is) =
-    subst (λ (t : Triangulation). IsSound t) (sym is) (sound_way inverse stood (sound_of files how name stood has))
 
 module _ (texts : LayerTextsAreOne) (tins : TinEndIsOne) (files : Files) (verification : Verification)
     (migration : Migration) (alone : IsOfSourceAlone verification migration) (tin : Triangulation) (format : Format)

@@ -12,9 +12,8 @@ use Rattle.sheet_base.specs.declared.edits.Edit.{Edit}
 use Rattle.sheet_base.specs.declared.edits.What.{What}
 use Rattle.sheet_base.specs.declared.edits.What.TheVariants.{Bounds, Null}
 use Rattle.sheet_base.specs.declared.faults.LayerFault.{LayerFault}
-use Rattle.sheet_base.specs.declared.paths.PathKind.{PathKind}
-use Rattle.sheet_base.specs.declared.paths.PathKind.TheVariants.{Dot, Line, Loop}
 use Rattle.sheet_base.specs.Sheets.{Contents}
+use Rattle.sheet_base.proofs.DrawnPaths.{by_kind}
 use Rattle.gj_layer.specs.declared.forms.ValueForm.{ValueForm}
 use Rattle.gj_layer.specs.declared.forms.ValueForm.TheVariants as forms
 use Rattle.gj_layer.specs.declared.forms.GeoType.{GeoType}
@@ -45,15 +44,10 @@ all-then number next (Ok value) all = all value
 all-then number next (Err fault) all = tt
 
 -- ---- paths
-names-path : (kind : PathKind) (number : ℕ) → path_of (text_for kind number) ≡ Some number
-names-path Dot number = refl
-names-path Line number = refl
-names-path Loop number = refl
-
 each-from : (number : ℕ) (paths : List Path) → HasEach (edits_from number paths) number paths
 each-from number [] = tt
 each-from number (path ∷ paths) = (
-  inl (names-path path.kind number),
+  inl (by_kind (λ kind. path_of (text_for kind number) ≡ Some number) refl refl refl path.kind),
   each_kept (edits_from (number + 1) paths) (edits_from number (path ∷ paths)) (number + 1) paths (λ n has. inr has)
       (each-from (number + 1) paths),
 )

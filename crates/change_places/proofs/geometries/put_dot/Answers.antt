@@ -1,6 +1,6 @@
 -- Answers to the goals of `put_dot` in src/geometries.rt.
 use Rattle.change_places.specs.PlacesText.{dot_text}
-use Rattle.change_places.proofs.Parts.{three}
+use Rattle.plain_laws.proofs.Parts.{three}
 use Rattle.change_places.proofs.geometries.put_dot.Goals as goal
 
 pub returns-clause-text : goal.returns-clause-text

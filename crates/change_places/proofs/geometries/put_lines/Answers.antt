@@ -1,6 +1,6 @@
 -- Answers to the goals of `put_lines` in src/geometries.rt.
 use Rattle.change_places.specs.PlacesText.{lines_text}
-use Rattle.change_places.proofs.Parts.{five}
+use Rattle.plain_laws.proofs.Parts.{five}
 use Rattle.change_places.proofs.geometries.put_lines.Goals as goal
 
 pub returns-clause-text : goal.returns-clause-text

@@ -1,6 +1,6 @@
 -- Answers to the goals of `put_behind` in src/features.rt.
 use Rattle.fault_runs.specs.FaultsText.{behind_text}
-use Rattle.fault_runs.proofs.Parts.{two}
+use Rattle.plain_laws.proofs.Parts.{two}
 use Rattle.fault_runs.proofs.features.put_behind.Goals as goal
 
 pub returns : goal.returns

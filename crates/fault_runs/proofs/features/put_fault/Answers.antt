@@ -1,7 +1,7 @@
 -- Answers to the goals of `put_fault` in src/features.rt.
 use Rattle.std.proofs.Common.{List, ℕ, ◌++◌, ◌∙◌, ap}
 use Rattle.fault_runs.specs.FaultsText.{fault_text}
-use Rattle.fault_runs.proofs.Parts.{seven}
+use Rattle.plain_laws.proofs.Parts.{seven}
 use Rattle.fault_runs.proofs.features.put_fault.Goals as goal
 
 pub returns : goal.returns

@@ -1,6 +1,6 @@
 -- Answers to the goals of `put_feature` in src/features.rt.
 use Rattle.fault_runs.specs.FaultsText.{feature_text}
-use Rattle.fault_runs.proofs.Parts.{seven}
+use Rattle.plain_laws.proofs.Parts.{seven}
 use Rattle.fault_runs.proofs.features.put_feature.Goals as goal
 
 pub returns : goal.returns

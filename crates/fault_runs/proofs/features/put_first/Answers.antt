@@ -1,6 +1,6 @@
 -- Answers to the goals of `put_first` in src/features.rt.
 use Rattle.fault_runs.specs.FaultsText.{first_text}
-use Rattle.fault_runs.proofs.Parts.{seven}
+use Rattle.plain_laws.proofs.Parts.{seven}
 use Rattle.fault_runs.proofs.features.put_first.Goals as goal
 
 pub returns : goal.returns

@@ -1,6 +1,6 @@
 -- Answers to the goals of `put_lines` in src/features.rt.
 use Rattle.fault_runs.specs.FaultsText.{lines_text}
-use Rattle.fault_runs.proofs.Parts.{four}
+use Rattle.plain_laws.proofs.Parts.{four}
 use Rattle.fault_runs.proofs.features.put_lines.Goals as goal
 
 pub returns : goal.returns

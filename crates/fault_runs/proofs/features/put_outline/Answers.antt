@@ -1,6 +1,6 @@
 -- Answers to the goals of `put_outline` in src/features.rt.
 use Rattle.fault_runs.specs.FaultsText.{outline_text}
-use Rattle.fault_runs.proofs.Parts.{five}
+use Rattle.plain_laws.proofs.Parts.{five}
 use Rattle.fault_runs.proofs.features.put_outline.Goals as goal
 
 pub returns : goal.returns
