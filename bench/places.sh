@@ -12,8 +12,7 @@
 # The map has COUNT squares of 10 m, each with README's line and point, so each with one change whose
 # gap is 1 mm. Each program runs TRIES times (5 if not set), in turns, and the quickest counts. Needs
 # python3. No part of the gate. The last line is 'the places fit'; the status is 1 where they do not: where a
-# value differs, or the changes take over 0.2 s or 100 bytes each beyond 'migrate', or faults over 2 of a check:
-# '--faults' reads the file once more, to say how many rings the border has.
+# value differs, or the changes take over 0.2 s or 100 bytes each beyond 'migrate', or faults over 1.3 of a check.
 set -eu
 top=$(CDPATH='' cd -- "$(dirname -- "$0")/.." && pwd)
 fail() { echo "places.sh: $1" >&2; exit 2; }
@@ -158,8 +157,8 @@ if beyond[1] > 100 * count:
 if HAS_FAULTS:
     print(f"faults of 524,288 sound triangles: {faulted[0]:.2f} s and {faulted[1] / 1e6:.1f} MB, check {checked[0]:.2f} s and "
         f"{checked[1] / 1e6:.1f} MB, ratio {faulted[0] / checked[0]:.3f}")
-    if faulted[0] > 2 * checked[0]:
-        fail("faults take more than 2 of a check")
+    if faulted[0] > 1.3 * checked[0]:
+        fail("faults take more than 1.3 of a check")
 
 
 def square(p, c, d):

@@ -28,7 +28,8 @@ use Rattle.publication.specs.RunEnds.{HasStatusCauses}
 use Rattle.publication.proofs.RunEnds.{refusal_causes}
 use Rattle.fault_runs.specs.Refusals.{status_of, line_file}
 use Rattle.fault_runs.specs.Words.{AsksFaults, LacksFaults, LacksCheck}
-use Rattle.fault_runs.specs.Outcome.{IsReadRefused, IsNotChecked, HasRead, IsSaidOf, HasTooMany, no_job, refused, too_many, listed}
+use Rattle.fault_runs.specs.Outcome.{IsReadRefused, IsNotChecked, HasReadOver, HasRead, IsSaidOf, HasTooMany}
+use Rattle.fault_runs.specs.Outcome.{no_job, refused, too_many, listed}
 use Rattle.fault_runs.specs.Ends.{Makes, by_outcome, after_read_fault, out_of_memory, IsJsonFile, LacksWantedOf}
 use Rattle.fault_runs.specs.HandedOut.{MayRefuseWanted}
 use Rattle.fault_runs.specs.Laws.{faults_depth}
@@ -92,6 +93,12 @@ makes_said words files shelf_rose wanted tin said some asks read is = by_outcome
   status_is = refl;
   made_is = refl;
 }))
+
+-- the triangulation is that of the file, where the files of the shelf are known
+pub read_told : (told : Option Files) (wanted : Wanted) (tin : Triangulation)
+    → HasReadOver told wanted.how wanted.tin tin → IfSome told (λ files. HasRead files wanted.how wanted.tin tin)
+read_told None wanted tin read = tt
+read_told (Some files) wanted tin read = read
 
 -- a file that gives no triangulation, where the files of the shelf may be unknown
 pub makes_unread_told : (words : List (List ℕ)) (told : Option Files) (shelf_rose passed : Type 0) (wanted : Wanted)

@@ -1,5 +1,5 @@
 -- What a run makes, as a relation of the words, the shelf's files, the status and the made files.
-use Rattle.std.specs.Prelude.{◌≡◌, ℕ, ◌≤◌, Bool, true, false, List, [], ◌∷◌, codes, length}
+use Rattle.std.specs.Prelude.{◌≡◌, ℕ, ◌≤◌, Bool, true, false, List, [], ◌∷◌, codes, length, Option, Some}
 use Rattle.shelf_io.specs.Files.{Files}
 use Rattle.sheet_base.specs.declared.flags.How.{How}
 use Rattle.tin_base.specs.Triangulation.{Triangulation}
@@ -10,7 +10,7 @@ use Rattle.runs.specs.declared.status.Status.{Status}
 use Rattle.runs.specs.declared.refusal.Refusal.{Refusal}
 use Rattle.runs.specs.declared.refusal.Refusal.TheVariants.{Words, Check}
 use Rattle.runs.specs.Status.{end_of}
-use Rattle.runs.specs.Triangulations.{HasFile, IsRead, IsTinRefused}
+use Rattle.runs.specs.Triangulations.{HasFileOver, IsRead, IsTinRefused}
 use Rattle.fault_runs.specs.declared.loads.TheConstants.{MOST_FAULTS}
 use Rattle.fault_runs.specs.declared.refusals.FaultRefusal.TheVariants.{Run, TooManyFaults}
 use Rattle.fault_runs.specs.declared.words.Wanted.{Wanted}
@@ -19,9 +19,12 @@ use Rattle.fault_runs.specs.Spots.{spots_of}
 use Rattle.fault_runs.specs.Refusals.{Refuses}
 use Rattle.fault_runs.specs.Words.{AsksFaults, LacksFaults}
 
--- the file of this name is read as this triangulation, sound or not
+-- the file of this name is read as this triangulation, sound or not; where the shelf states nothing some bytes are
+abbrev pub HasReadOver : Option Files → How → List ℕ → Triangulation → Type 0
+HasReadOver told how name tin = (text : List ℕ) × HasFileOver told name text × IsRead how text tin
+
 abbrev pub HasRead : Files → How → List ℕ → Triangulation → Type 0
-HasRead files how name tin = (text : List ℕ) × HasFile files name text × IsRead how text tin
+HasRead files how name tin = HasReadOver (Some files) how name tin
 
 -- the file gives no triangulation, sound or not
 abbrev pub IsReadRefused : Files → How → List ℕ → Refusal → Type 0

@@ -1,9 +1,10 @@
 //! Runs over files in memory. The expected texts are worked out by hand.
 
-use fault_runs::run_to_end;
+use fault_runs::{FaultRunEnd, run_to_end};
 use runs::Status;
 use shelf_io::{MemPress, MemShelf, Shelf};
 use std::alloc::{AllocError, Global};
+use std::test::Fail;
 
 /// Five triangles round the row 5, which is two metres below the side of the rows 0 and 1 in the target.
 const WRONG: &str = concat!(
@@ -106,12 +107,13 @@ fn add_file(shelf: &mut MemShelf, name: &str, bytes: &[u8]) -> Result<(), AllocE
     }
 }
 
-/// How a run of these words over these files ends, and what it makes.
+/// How a run of these words over these files ends where the call of this number of the press fails, and what it makes.
 fn ran(
     alloc: Global,
     texts: &[&str],
     files: &[(&str, &str)],
-) -> Result<(Status, MemPress), AllocError> {
+    fail: u64,
+) -> Result<(FaultRunEnd, MemPress), AllocError> {
     let mut words = Vec::with_capacity(alloc, texts.len())?;
     for text in texts {
         words.push(String::from_str(alloc, text)?)?;
@@ -121,9 +123,13 @@ fn ran(
         add_file(&mut shelf, name, text.as_bytes())?;
     }
     let mut press = MemPress::new(alloc, 64);
-    let status = run_to_end(alloc, &words, &mut shelf, &mut press).status;
-    Ok((status, press))
+    press.fail_at(fail)?;
+    let end = run_to_end(alloc, &words, &mut shelf, &mut press);
+    Ok((end, press))
 }
+
+/// The number of a call that is never reached.
+const NEVER: u64 = u64::MAX;
 
 /// Whether a run of these words over these files ends so, and prints this text.
 fn prints(
@@ -133,13 +139,22 @@ fn prints(
     wanted: Status,
     said: &str,
 ) -> bool {
-    match ran(alloc, texts, files) {
-        Ok((status, press)) => {
+    match ran(alloc, texts, files, NEVER) {
+        Ok((end, press)) => {
             let made = press.made_bytes("-");
-            status == wanted && made == Some(said.as_bytes())
+            end.status == wanted && made == Some(said.as_bytes())
         }
         Err(_) => false,
     }
+}
+
+/// How the list of all faults of this text ends where the call of this number of the press fails, and how many triangles
+/// the triangulation has that is handed out.
+fn handed_of(alloc: Global, text: &str, fail: u64) -> Result<(Status, Option<u32>), AllocError> {
+    let words = ["--tin", "t.json", "--faults"];
+    let (end, _) = ran(alloc, &words, &[("t.json", text)], fail)?;
+    let count = end.sound.map(|tin| tin.triangle_count());
+    Ok((end.status, count))
 }
 
 #[test]
@@ -192,4 +207,24 @@ fn a_text_that_is_no_triangulation_is_refused(rt: HostRuntime) {
     let files = [("w.json", "{}")];
     let line = "triangulation: key file_type\n";
     assert!(rt; prints(rt.alloc(), &words, &files, Status::Tin, line));
+}
+
+#[test]
+fn a_sound_triangulation_is_handed_out(rt: HostRuntime) -> Result<(), Fail> {
+    let (status, count) = handed_of(rt.alloc(), RIGHT, NEVER)?;
+    assert!(rt; status == Status::Same && count == Some(5));
+    let (status, count) = handed_of(rt.alloc(), RIGHT, 1)?;
+    assert!(rt; status == Status::Write && count == Some(5));
+    Ok(())
+}
+
+#[test]
+fn one_with_a_fault_is_not_handed_out(rt: HostRuntime) -> Result<(), Fail> {
+    let (status, count) = handed_of(rt.alloc(), WRONG, NEVER)?;
+    assert!(rt; status == Status::Changed && count.is_none());
+    let (status, count) = handed_of(rt.alloc(), FLAT, 1)?;
+    assert!(rt; status == Status::Write && count.is_none());
+    let (status, count) = handed_of(rt.alloc(), "{}", NEVER)?;
+    assert!(rt; status == Status::Tin && count.is_none());
+    Ok(())
 }

@@ -1,11 +1,8 @@
 //! What standard error says of the border of a sound triangulation.
 
-use crate::refused_files::tin_again;
-use crate::tin_uses::TinUse;
 use job_words::Job;
 use remarks::{border_line, no_triangles_line};
 use std::alloc::{AllocError, Global};
-use std::rt::Files;
 use tin_base::SoundTin;
 
 /// The outer rings and the holes of a border.
@@ -298,14 +295,5 @@ fn say_rings<R: Eprint + AllocGlobal>(rt: &R, name: &str, triangles: &[[u32; 3]]
 pub fn say_border<R: Eprint + AllocGlobal>(rt: &R, job: &Job, tin: &SoundTin) {
     if let Job::Check { tin: name, .. } = job {
         say_rings(rt, name.text(), tin.triangles(), tin.corners().len());
-    }
-}
-
-/// Says the same of a triangulation that was checked, and is sound, where it can be read once more.
-pub fn say_border_again<R: Files + Eprint + AllocGlobal + Clone + Drop>(rt: &R, job: &Job) {
-    if let Job::Check { tin: name, how } = job {
-        if let Some(tin) = tin_again(rt, name.text(), *how, TinUse::Places) {
-            say_rings(rt, name.text(), tin.triangles(), tin.corners().len());
-        }
     }
 }

@@ -23,7 +23,7 @@ mod word_flaws;
 mod word_forms;
 mod word_uses;
 
-pub use borders::{say_border, say_border_again};
+pub use borders::say_border;
 pub use command_words::{Usage, Words, words_of};
 pub use degrees::say_degrees;
 pub use entity_kinds::left_out_kinds;

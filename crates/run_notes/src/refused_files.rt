@@ -155,7 +155,7 @@ pub(crate) fn layer_again<R: Files + AllocGlobal + Clone + Drop>(
 }
 
 /// A triangulation that can be read once more.
-pub(crate) fn tin_again<R: Files + AllocGlobal + Clone + Drop>(
+fn tin_again<R: Files + AllocGlobal + Clone + Drop>(
     rt: &R,
     name: &str,
     how: How,

@@ -5,8 +5,7 @@ use crate::help::FAULTS_USAGE;
 use fault_runs::{FaultRefusal, FaultRunEnd, Wanted, check_words, read_wanted, run_to_end};
 use job_words::Job;
 use run_notes::{
-    Usage, Words, say_border_again, say_degrees, say_many_faults, say_refusal, say_unwritten,
-    steps_of,
+    Usage, Words, say_border, say_degrees, say_many_faults, say_refusal, say_unwritten, steps_of,
 };
 use run_steps::{ToldPress, ToldShelf};
 use runs::{Refusal, Status};
@@ -60,12 +59,11 @@ pub fn list_on_files(rt: &HostRuntime, words: &Words) -> Status {
     let steps = steps_of(job.as_ref(), false);
     let mut shelf = ToldShelf::new(shelf, terminal, steps);
     let mut press = ToldPress::new(press, terminal, steps);
-    let FaultRunEnd { status, refusal } = run_to_end(
-        rt.alloc(),
-        &words.words,
-        &mut shelf,
-        &mut press,
-    );
+    let FaultRunEnd {
+        status,
+        sound,
+        refusal,
+    } = run_to_end(rt.alloc(), &words.words, &mut shelf, &mut press);
     if status == Status::Write {
         let _ = press.clear();
         say_unwritten(rt, "-");
@@ -74,8 +72,8 @@ pub fn list_on_files(rt: &HostRuntime, words: &Words) -> Status {
         say_fault_refusal(rt, words, job.as_ref(), refusal);
     }
     if let Some(job) = &job {
-        if status == Status::Same {
-            say_border_again(rt, job);
+        if let (Status::Same, Some(tin)) = (status, &sound) {
+            say_border(rt, job, tin);
         }
         say_degrees(rt, job);
     }

@@ -6,13 +6,12 @@ use Rattle.runs.specs.Status.{end_of}
 use Rattle.runs.specs.Causes.{no_room}
 use Rattle.runs.proofs.RefusalLines.{never-write}
 use Rattle.runs.proofs.RunEnds.{never-write-end, told, told_always, done_end}
-use Rattle.publication.proofs.Fronts.{written_front}
 use Rattle.publication.proofs.LimitFronts.{limit_apart}
 use Rattle.publication.proofs.RunEnds.{ends_so, handed_out, words_causes, plain_causes, end_understood, end_unread}
 use Rattle.fault_runs.specs.declared.refusals.FaultRefusal.TheVariants.{Run, TooManyFaults}
 use Rattle.fault_runs.specs.Ends.{Makes}
 use Rattle.fault_runs.specs.Refusals.{status_of, line_of, line_file}
-use Rattle.fault_runs.proofs.RunEnds.{makes_no_job, makes_unread_told, makes_many, makes_no_room, makes_said}
+use Rattle.fault_runs.proofs.RunEnds.{makes_no_job, makes_unread_told, makes_many, makes_no_room, makes_said, read_told}
 use Rattle.fault_runs.proofs.RunEnds.{may_refuse_told, memory_causes, asks_or_lacks, wanted_causes, json_told}
 use Rattle.fault_runs.proofs.TextLimits.{many_apart, text_apart}
 use Rattle.fault_runs.proofs.run_ends.run_to_end.Goals as goal
@@ -39,6 +38,7 @@ returns-in-Err-clause-handed g c =
       refusal = handed_out _ (line_file (Run (Words fault))) (status_of (Run (Words fault))) c.refuse.result
           (g.P.Press.made c.refuse.new.press) (never-write (Words fault)) c.refuse.ensures.written
           (inl (fault, refl, c.in-Err.ensures.refused));
+      no_sound = refl;
       done = tt;
       status_is = tt;
       json = tt;
@@ -81,6 +81,7 @@ returns-in-Err-load_read-clause-handed g c =
               counted = rw c.text.ensures at c.in-Err-load_read.ensures.causes;
             },
           ));
+      no_sound = refl;
       done = tt;
       status_is = tt;
       json = tt;
@@ -100,7 +101,8 @@ returns-in-Ok-prepare_faults-clause-ends g c =
     (makes_said (map string_bytes c.args.words.now) files _ c.in-Ok.wanted c.in-Ok-load_read.tin said.text said.some
     c.in-Ok.ensures.asks is c.in-Ok-prepare_faults.ensures.ok)
     (rw (c.items.ensures, c.end.ensures) at e.written) e.press.rose)
-    (rw c.text.ensures at c.in-Ok-load_read.ensures.ok)
+    (read_told (g.S.Shelf.files c.args.shelf.now) c.in-Ok.wanted c.in-Ok-load_read.tin
+    (rw c.text.ensures at c.in-Ok-load_read.ensures.ok))
 
 pub returns-in-Ok-prepare_faults-clause-causes : goal.returns-in-Ok-prepare_faults-clause-causes
 returns-in-Ok-prepare_faults-clause-causes g c =
@@ -118,25 +120,18 @@ returns-in-Ok-prepare_faults-clause-handed g c =
     let written = rw (c.items.ensures, c.end.ensures) at c.say.ensures.written in
     record {
       refusal = tt;
-      done = told (g.S.Shelf.files c.args.shelf.now)
-          (λ files is. (
-            c.in-Ok.wanted,
-            end_of said.some,
-            said.text,
-            c.in-Ok.ensures.asks,
-            record {
-              tin = c.in-Ok-load_read.tin;
-              read = is;
-              said = said.text;
-              some = said.some;
-              is_said = c.in-Ok-prepare_faults.ensures.ok;
-              status_is = refl;
-              made_is = refl;
-            },
-            written_front ((codes "-", said.text) ∷ []) (end_of said.some) c.say.result
-                (g.P.Press.made c.say.new.press) (never-write-end said.some) written,
-          ))
-          (rw c.text.ensures at c.in-Ok-load_read.ensures.ok);
+      no_sound = tt;
+      done = record {
+        wanted = c.in-Ok.wanted;
+        asks = c.in-Ok.ensures.asks;
+        tin = c.in-Ok-load_read.tin;
+        read = rw c.text.ensures at c.in-Ok-load_read.ensures.ok;
+        said = said.text;
+        some = said.some;
+        is_said = c.in-Ok-prepare_faults.ensures.ok;
+        is_sound = c.sound_of.ensures;
+        written = written;
+      };
       status_is = done_end said.some c.say.result written.status;
       json = λ other. json_told c.in-Ok.wanted.lines said.text (g.P.Press.made c.say.new.press)
           c.in-Ok-prepare_faults.ensures.form (written.all other);
@@ -155,7 +150,8 @@ returns-in-Err-TooMany-clause-ends g c =
       more = c.in-Err-TooMany.ensures.too_many c.in-Err-TooMany.field-0-is;
     }))
     e.written e.press.rose)
-    (rw c.text.ensures at c.in-Ok-load_read.ensures.ok)
+    (read_told (g.S.Shelf.files c.args.shelf.now) c.in-Ok.wanted c.in-Ok-load_read.tin
+    (rw c.text.ensures at c.in-Ok-load_read.ensures.ok))
 
 pub returns-in-Err-TooMany-clause-causes : goal.returns-in-Err-TooMany-clause-causes
 returns-in-Err-TooMany-clause-causes g c =
@@ -177,10 +173,12 @@ returns-in-Err-TooMany-clause-handed g c =
             c.in-Ok.ensures.asks,
             record {
               refused = told files (λ f is. record { tin = c.in-Ok-load_read.tin; read = is; more = many })
-                  (rw c.text.ensures at c.in-Ok-load_read.ensures.ok);
+                  (read_told files c.in-Ok.wanted c.in-Ok-load_read.tin
+                  (rw c.text.ensures at c.in-Ok-load_read.ensures.ok));
               counted = (c.in-Ok-load_read.tin, many);
             },
           ));
+      no_sound = refl;
       done = tt;
       status_is = tt;
       json = tt;
@@ -213,6 +211,7 @@ returns-clause-handed g c =
             c.in-Ok.ensures.asks,
             record { refused = told_always files (λ f. no_room refl); counted = memory_causes _ _ },
           ));
+      no_sound = refl;
       done = tt;
       status_is = tt;
       json = tt;
