@@ -15,7 +15,7 @@ use Rattle.runs.specs.declared.refusal.Refusal.TheVariants.{Words, TinUnread, Ti
 use Rattle.runs.specs.Status.{end_of}
 use Rattle.runs.specs.Laws.{TinEndIsOne}
 use Rattle.runs.specs.Triangulations.{IsRead, IsTinRefused}
-use Rattle.runs.proofs.OneTin.{text_one, none_fine, long_fine, tin_answer}
+use Rattle.runs.proofs.OneFile.{text_one, none_fine, long_fine, fault_answer}
 use Rattle.fault_runs.specs.declared.loads.TheConstants.{MOST_FAULTS}
 use Rattle.fault_runs.specs.declared.refusals.FaultRefusal.{FaultRefusal}
 use Rattle.fault_runs.specs.declared.refusals.FaultRefusal.TheVariants.{Run}
@@ -75,7 +75,7 @@ read_or_refused answers files how name tin TinLong (text, file, read) is = long_
 read_or_refused answers files how name tin (Tin fault) (text, file, read) (other, also, lacks) =
     let same = text_one files name text other file also in
     let e = answers how other (Ok tin) (Err fault) (subst (λ (t : List ℕ). IsRead how t tin) same read) (λ no. cc)
-    lacks.answers (tin_answer fault lacks.of_text) in
+    lacks.answers (fault_answer fault lacks.of_text) in
     cc
 read_or_refused answers files how name tin refusal read is = absurd is
 

@@ -1,10 +1,10 @@
 -- What is so of moving a list of points after each of its steps.
-use Rattle.std.proofs.Common.{◌≡◌, ◌≢◌, ◌⊎◌, inl, inr, ℕ, ◌+◌, ◌≤◌, length, List, [], ◌∷◌, Option, None, Some, IfSome}
+use Rattle.std.proofs.Common.{◌≡◌, ◌≢◌, ◌⊎◌, inl, inr, ℕ, ◌+◌, length, List, [], ◌∷◌, Option, None, Some, IfSome}
 use Rattle.std.proofs.lemmas.List.Elements.{Contains-append_left, Contains-append_right}
 use Rattle.std.proofs.Common.{lit<, refl, sym, ◌∙◌, ap, ap₂, subst, map, ◌++◌}
-use Rattle.std.specs.Prelude.{codes, string_bytes, Result, Ok, Err, false}
-use Rattle.shelf_io.specs.Files.{Files, bytes_of}
-use Rattle.shelf_io.specs.Load.{LacksName, IsLonger}
+use Rattle.std.specs.Prelude.{codes, string_bytes}
+use Rattle.shelf_io.specs.Files.{Files}
+use Rattle.shelf_io.specs.Load.{LacksName}
 use Rattle.sheet_base.specs.declared.flags.How.{How}
 use Rattle.sheet_base.specs.declared.faults.LayerFault.{LayerFault}
 use Rattle.tin_base.specs.Triangulation.{Triangulation}
@@ -15,11 +15,10 @@ use Rattle.runs.specs.declared.status.Status.TheVariants.{Same, Words as WordsSt
 use Rattle.runs.specs.declared.status.Status.TheVariants.{Read as ReadStatus, Limit as LimitStatus, Memory}
 use Rattle.runs.specs.declared.status.Status.TheVariants.{Outside as OutsideStatus}
 use Rattle.runs.specs.declared.refusal.Refusal.{Refusal}
-use Rattle.runs.specs.declared.refusal.Refusal.TheVariants.{Words, TinUnread, TinLong, Tin, Check, LayerUnread}
-use Rattle.runs.specs.declared.refusal.Refusal.TheVariants.{LayersLong, Layer, Outside, TooManyPieces, TooManyChanges}
-use Rattle.runs.specs.declared.refusal.Refusal.TheVariants.{TooManySides}
-use Rattle.runs.specs.declared.refusal.Refusal.TheVariants.{WrittenUnread, WrittenLong, CertUnread, CertLong}
-use Rattle.runs.specs.declared.refusal.Refusal.TheVariants.{Certificate, NoMemory}
+use Rattle.runs.specs.declared.refusal.Refusal.TheVariants.{TinUnread, TinLong, Tin, Check, LayerUnread}
+use Rattle.runs.specs.declared.refusal.Refusal.TheVariants.{LayersLong, Layer, Outside}
+use Rattle.runs.specs.declared.refusal.Refusal.TheVariants.{WrittenLong, CertLong}
+use Rattle.runs.specs.declared.refusal.Refusal.TheVariants.{NoMemory}
 use Rattle.runs.specs.Refusals.{status_of}
 use Rattle.runs.specs.Status.{end_of}
 use Rattle.job_words.specs.Names.{part_behind_slashes}
@@ -32,7 +31,7 @@ use Rattle.runs.specs.Causes.{by_the_files, unread, no_room, HasCauses}
 use Rattle.runs.specs.Loads.{IsUnloaded, missing, read_failed, too_long, no_memory}
 use Rattle.runs.proofs.Faults.{unread_layer, layer_without_room, of_layer}
 use Rattle.runs.proofs.Faults.{IsOfTin, refused_tin, limited_tin, tin_without_room}
-use Rattle.runs.proofs.Faults.{of_text, of_check, not_read, tin_understood}
+use Rattle.runs.proofs.TinCauses.{fault_causes, check_causes}
 use Rattle.height_mode.specs.declared.heights.HeightJob.{HeightJob}
 use Rattle.height_mode.specs.Talls.{HasTallOver, IsTallRefusedOver, IsTallTextRefused, IsTallUnready, not_loaded, no_tall}
 use Rattle.height_mode.specs.Heights.{IsUnmoved, IsHeightsRefusedOver, IsListReachedByOver}
@@ -124,24 +123,8 @@ tin_end status (tin_without_room is) = rw is tt
 
 text_causes : (lacks : Type 0) (counts : ShelfCounts) (how : How) (text : List ℕ) (refusal : Refusal)
     → IsTallTextRefused how text refusal → HasCauses lacks IsEndOfHeights counts refusal
-text_causes lacks counts how text (Tin fault) why = record {
-  understood = tin_understood (status_of (Tin fault)) (of_text fault);
-  read = λ e. absurd (not_read (status_of (Tin fault)) (of_text fault) e);
-  tin_long = λ e. cc;
-  layers_long = λ e. cc;
-  written_long = λ e. cc;
-  cert_long = λ e. cc;
-  may_end = tin_end (status_of (Tin fault)) (of_text fault);
-}
-text_causes lacks counts how text (Check fault) why = record {
-  understood = tin_understood (status_of (Check fault)) (of_check fault);
-  read = λ e. absurd (not_read (status_of (Check fault)) (of_check fault) e);
-  tin_long = λ e. cc;
-  layers_long = λ e. cc;
-  written_long = λ e. cc;
-  cert_long = λ e. cc;
-  may_end = tin_end (status_of (Check fault)) (of_check fault);
-}
+text_causes lacks counts how text (Tin fault) why = fault_causes lacks IsEndOfHeights counts tin_end fault
+text_causes lacks counts how text (Check fault) why = check_causes lacks IsEndOfHeights counts tin_end fault
 text_causes lacks counts how text NoMemory why = memory_causes lacks counts NoMemory refl
 text_causes lacks counts how text refusal why = absurd why
 

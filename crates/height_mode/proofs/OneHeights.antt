@@ -24,7 +24,7 @@ use Rattle.runs.specs.declared.refusal.Refusal.TheVariants.{WrittenUnread, Writt
 use Rattle.runs.specs.declared.refusal.Refusal.TheVariants.{Certificate, NoMemory}
 use Rattle.runs.specs.Output.{name_in}
 use Rattle.runs.specs.Triangulations.{HasFile}
-use Rattle.runs.proofs.OneTin.{text_one, none_fine, none_long, long_fine}
+use Rattle.runs.proofs.OneFile.{text_one, none_fine, none_long, long_fine}
 use Rattle.height_mode.specs.declared.heights.HeightJob.{HeightJob}
 use Rattle.height_mode.specs.Talls.{HasTall, IsTallRefused}
 use Rattle.height_mode.specs.Heights.{moved_files, IsMoved, IsOutsideAt, IsHeightsRefused, AreMoved}

@@ -1,6 +1,5 @@
 //! Certificates of pieces, texts that are none, and lists of triangles that are right.
 
-use crate::moves::SQUARE;
 use crate::sheets::{LONGEST, PLAIN, pt};
 use cert_check::{CertFault, check_cert, is_right, list_count, write_cert};
 use plane_base::Pt;
@@ -8,6 +7,7 @@ use std::alloc::{AllocError, Global};
 use tin_base::{Piece, Place, SoundTin};
 use tin_check::check_tin;
 use tin_file::read_tin;
+use tin_texts::SQUARE;
 use wkt_layer::Wkt;
 
 const NOWHERE: Pt = Pt { x: 0, y: 0 };

@@ -1,11 +1,12 @@
 //! Drawings whose sheets, faults and texts were worked out by hand.
 
-use crate::moves::{SQUARE, is_moved_to};
+use crate::moves::is_moved_to;
 use crate::sheets::{LONGEST, PLAIN, WantedSheet, is_sheet};
 use dxf_layer::{Dxf, read_drawing, written_pairs};
 use mm_decimal::NumFault;
 use sheet_base::{How, LayerFault, PathKind, What};
 use std::alloc::Global;
+use tin_texts::SQUARE;
 
 /// A line with a handle, and one on a layout of paper.
 const LINES: &[u8] =

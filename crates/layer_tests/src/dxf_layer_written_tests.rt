@@ -1,11 +1,12 @@
 //! Drawings with each kind of entity that are carried through the square and written. What is expected is worked out by
 //! hand, by the AutoCAD DXF reference and docs/guide.md.
 
-use crate::moves::{SQUARE, is_moved_to};
+use crate::moves::is_moved_to;
 use crate::sheets::PLAIN;
 use dxf_layer::{Dxf, read_drawing};
 use sheet_base::LayerFault;
 use std::alloc::{AllocError, Global};
+use tin_texts::SQUARE;
 
 /// A point, an insert with a scale, a text with a second place, and one without.
 const DOTS: &[u8] =

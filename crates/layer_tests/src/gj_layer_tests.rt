@@ -1,11 +1,12 @@
 //! Objects of GeoJSON. The expected places, sheets and texts are worked out by hand.
 
-use crate::moves::{HINGE, SQUARE, TRIANGLE, is_moved_to};
+use crate::moves::{HINGE, is_moved_to};
 use crate::sheets::{LONGEST, WantedSheet, how, is_sheet};
 use gj_layer::GeoJson;
 use mm_decimal::NumFault;
 use sheet_base::{Layer, LayerFault, PathKind, Sheet, What};
 use std::alloc::Global;
+use tin_texts::{SQUARE, TRIANGLE};
 
 /// The text is not longer than `LONGEST`.
 fn read(alloc: Global, text: &[u8], exact: bool) -> Result<Sheet, LayerFault> {

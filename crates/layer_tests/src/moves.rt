@@ -8,25 +8,6 @@ use tin_check::check_tin;
 use tin_file::read_tin;
 use tin_index::TinIndex;
 
-/// A triangle with corners at (0, 0), (10, 0) and (0, 10), whose side along x is two millimetres longer in the target.
-/// The middle of that side goes to (105.001, 100).
-pub const TRIANGLE: &str = concat!(
-    r#"{"file_type":"triangulation_file","format_version":"1.1","transformed_components":["horizontal"],"#,
-    r#""vertices_columns":["source_x","source_y","target_x","target_y"],"#,
-    r#""triangles_columns":["idx_vertex1","idx_vertex2","idx_vertex3"],"#,
-    r#""vertices":[[0,0,100,100],[10,0,110.002,100],[0,10,100,110]],"triangles":[[0,1,2]]}"#
-);
-
-/// Two triangles that make a square, whose diagonal is longer in the target. Its point (u, u) goes to 100 + 1.0003 u on
-/// both axes, so that (5, 5) goes to (105.0015, 105.0015), which is rounded to (105.002, 105.002).
-pub const SQUARE: &str = concat!(
-    r#"{"file_type":"triangulation_file","format_version":"1.1","transformed_components":["horizontal"],"#,
-    r#""vertices_columns":["source_x","source_y","target_x","target_y"],"#,
-    r#""triangles_columns":["idx_vertex1","idx_vertex2","idx_vertex3"],"#,
-    r#""vertices":[[0,0,100,100],[10,0,110,100],[10,10,110.003,110.003],[0,10,100,110]],"#,
-    r#""triangles":[[0,1,2],[0,2,3]]}"#
-);
-
 /// A triangle with corners at (0, 0), (1, 0) and (1, 1), cut from the last to the middle of the side along x, which
 /// goes to (0.5, -0.005); the three corners stay where they are.
 pub const HINGE: &str = concat!(

@@ -9,20 +9,13 @@ use tin_check::check_tin;
 use tin_file::{MOST_BYTES, Tall, TinFault, read_tall};
 use tin_height::{RaiseFault, raise, read_points, render_points};
 use tin_index::TinIndex;
+use tin_texts::{MOVED, STILL, TRIANGLE, TWOFOLD};
 
 const PLAIN: How = How {
     exact: false,
     drop_other: false,
     inside_only: false,
 };
-
-/// A file that moves heights alone, of one triangle with the offsets 1, 2 and -1 m.
-const STILL: &str = concat!(
-    r#"{"file_type":"triangulation_file","format_version":"1.1","transformed_components":["vertical"],"#,
-    r#""vertices_columns":["source_x","source_y","offset_z"],"#,
-    r#""triangles_columns":["idx_vertex1","idx_vertex2","idx_vertex3"],"vertices":[[0,0,1],[10,0,2],[0,10,-1]],"#,
-    r#""triangles":[[0,1,2]]}"#
-);
 
 /// A file that moves heights alone, with the offsets 0, 1 mm and 0.
 const LOW: &str = concat!(
@@ -38,31 +31,6 @@ const HEIGHTS: &str = concat!(
     r#""vertices_columns":["source_x","source_y","source_z","target_z"],"#,
     r#""triangles_columns":["idx_vertex1","idx_vertex2","idx_vertex3"],"#,
     r#""vertices":[[0,0,4,5],[10,0,-1,1],[0,10,0.5,-0.5]],"triangles":[[0,1,2]]}"#
-);
-
-/// A file that moves both, with the same offsets.
-const MOVED: &str = concat!(
-    r#"{"file_type":"triangulation_file","format_version":"1.1","#,
-    r#""transformed_components":["horizontal","vertical"],"#,
-    r#""vertices_columns":["source_x","source_y","target_x","target_y","offset_z"],"#,
-    r#""triangles_columns":["idx_vertex1","idx_vertex2","idx_vertex3"],"#,
-    r#""vertices":[[0,0,100,100,1],[10,0,110.002,100,2],[0,10,100,110,-1]],"triangles":[[0,1,2]]}"#
-);
-
-/// A file whose last row is the first corner with another offset.
-const TWOFOLD: &str = concat!(
-    r#"{"file_type":"triangulation_file","format_version":"1.1","transformed_components":["vertical"],"#,
-    r#""vertices_columns":["source_x","source_y","offset_z"],"#,
-    r#""triangles_columns":["idx_vertex1","idx_vertex2","idx_vertex3"],"#,
-    r#""vertices":[[0,0,1],[10,0,2],[0,10,-1],[0,0,2]],"triangles":[[0,1,2]]}"#
-);
-
-/// A file that moves no heights.
-const PLANE: &str = concat!(
-    r#"{"file_type":"triangulation_file","format_version":"1.1","transformed_components":["horizontal"],"#,
-    r#""vertices_columns":["source_x","source_y","target_x","target_y"],"#,
-    r#""triangles_columns":["idx_vertex1","idx_vertex2","idx_vertex3"],"#,
-    r#""vertices":[[0,0,100,100],[10,0,110.002,100],[0,10,100,110]],"triangles":[[0,1,2]]}"#
 );
 
 /// Why a list of points is not moved. The last is want of memory, and what no row has.
@@ -173,7 +141,11 @@ const REFUSED: &[Row] = &[
         "5 0 10",
         Err(PointsStop::Tin(TinFault::Offset { row: 3 })),
     ),
-    (PLANE, "5 0 10", Err(PointsStop::Tin(TinFault::NoVertical))),
+    (
+        TRIANGLE,
+        "5 0 10",
+        Err(PointsStop::Tin(TinFault::NoVertical)),
+    ),
     (
         STILL,
         "5 0",

@@ -1,11 +1,12 @@
 //! Lines of well-known text. The expected places, sheets and texts are worked out by hand.
 
-use crate::moves::{HINGE, SQUARE, TRIANGLE, is_moved_to};
+use crate::moves::{HINGE, is_moved_to};
 use crate::sheets::{LONGEST, WantedSheet, how, is_sheet};
 use mm_decimal::NumFault;
 use plane_base::Pt;
 use sheet_base::{Layer, LayerFault, PathKind, Sheet, What};
 use std::alloc::{AllocError, Global};
+use tin_texts::{SQUARE, TRIANGLE};
 use wkt_layer::Wkt;
 
 const ZEROS: &str = "POINT (00000000000000000000000000000000000000000000000000000000000000000 1)";

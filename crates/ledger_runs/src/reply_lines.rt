@@ -3,13 +3,13 @@
 ghost use Rattle.std.specs.Prelude.{◌≡◌, ◌++◌, length, codes, OnOk, IfOk};
 ghost use Rattle.std.specs.List.{flat_map};
 ghost use Rattle.text_fields.specs.Fields.{field};
-ghost use Rattle.report_text.specs.ReportText.{place_text, relation_word};
 ghost use Rattle.ledger_runs.specs.ReplyText.{spaced_place, open_line, number_line, settled_line, reply_text, replies_text};
 
 use itoa::Buffer;
 use ledger_core::{PairRow, Reply, Verdict};
+use report_text::{put_place, put_relation};
 use std::alloc::{AllocError, Global};
-use tin_base::{Place, Rel};
+use tin_base::Place;
 
 // Adds a text at the end.
 fn put(out: &mut Vec<u8>, text: &str) -> Result<(), AllocError>
@@ -35,36 +35,6 @@ fn put_number_line(out: &mut Vec<u8>, word: &str, number: u64) -> Result<(), All
 {
     put_number(out, word, number)?;
     put(out, "\n")?;
-    Ok(())
-}
-
-fn put_place(out: &mut Vec<u8>, place: Place) -> Result<(), AllocError>
-    ensures { OnOk result (out.new.items ≡ out.old.items ++ place_text place) }
-{
-    put_number(out, "", u64::from(place.layer))?;
-    put_number(out, "/", u64::from(place.path))?;
-    put_number(out, "/", u64::from(place.segment))?;
-    put_number(out, "/", u64::from(place.piece))?;
-    Ok(())
-}
-
-fn word_of(relation: Rel) -> &'static str
-    ensures { result.now ≡ relation_word relation }
-{
-    match relation {
-        Rel::Apart => "apart",
-        Rel::Touching => "touching",
-        Rel::Crossing => "crossing",
-        Rel::Overlapping => "overlapping",
-    }
-}
-
-// Adds a relation after a space.
-fn put_relation(out: &mut Vec<u8>, relation: Rel) -> Result<(), AllocError>
-    ensures { OnOk result (out.new.items ≡ out.old.items ++ (codes " " ++ relation_word relation)) }
-{
-    put(out, " ")?;
-    put(out, word_of(relation))?;
     Ok(())
 }
 

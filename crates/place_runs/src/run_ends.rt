@@ -1,8 +1,10 @@
 //! The whole program over what it is handed.
 
-ghost use Rattle.std.specs.Prelude.{◌≡◌, [], IfSome, false, map, string_bytes};
+ghost use Rattle.std.specs.Prelude.{◌≡◌, [], IfSome, Some, false, map, string_bytes};
 ghost use Rattle.shelf_io.specs.Count.{Rose};
 ghost use Rattle.runs.specs.Counts.{LeavesPress, LeavesShelf, shelf_counts};
+ghost use Rattle.runs.specs.Refusals.{line_file, status_of};
+ghost use Rattle.publication.specs.Fronts.{HasWritten};
 ghost use Rattle.publication.specs.RunEnds.{HasStatusCauses};
 ghost use Rattle.place_runs.specs.Words.{LacksRequest};
 ghost use Rattle.place_runs.specs.Ends.{EndsTold, LacksWantedOf};
@@ -26,6 +28,24 @@ pub struct PlaceRunEnd {
     pub refusal: Option<Refusal>,
     /// What a report would say of each layer, in order; nothing where there is a refusal.
     pub rows: Vec<LayerRow>,
+}
+
+/// Prints the line of a refusal, after which nothing was carried.
+fn refused_end<P: Press>(alloc: Global, press: &mut P, refusal: Refusal) -> PlaceRunEnd
+    requires free { P.at_hand press.old ≡ false }
+    requires empty { IfSome (P.made press.old) (λ made. made ≡ []) }
+    ensures refusal { result.refusal ≡ Some refusal }
+    ensures rows { result.rows.items ≡ [] }
+    ensures written { HasWritten (line_file refusal) (status_of refusal) result.status (P.made press.new) }
+    ensures press { LeavesPress (P.faults press.old) (P.faults press.new) (P.broken press.new) (P.at_hand press.new) result.status }
+{
+    let status = refuse(press, refusal);
+    let rows = Vec::new(alloc);
+    PlaceRunEnd {
+        status,
+        refusal: Some(refusal),
+        rows,
+    }
 }
 
 /// Prints the changes of the migration that the words ask for, and hands out the refusal where there is one.
@@ -55,13 +75,7 @@ pub fn run_to_end<S: Shelf, P: Press>(
 {
     let request = match read_request(alloc, words) {
         Ok(request) => request,
-        Err(fault) => {
-            return PlaceRunEnd {
-                status: refuse(press, Refusal::Words(fault)),
-                refusal: Some(Refusal::Words(fault)),
-                rows: Vec::new(alloc),
-            };
-        }
+        Err(fault) => return refused_end(alloc, press, Refusal::Words(fault)),
     };
     match prepare_places(alloc, shelf, &request.migration, &request.view) {
         Ok(prepared) => {
@@ -79,15 +93,7 @@ pub fn run_to_end<S: Shelf, P: Press>(
                 rows,
             }
         }
-        Err(refusal) => {
-            let status = refuse(press, refusal);
-            let rows = Vec::new(alloc);
-            PlaceRunEnd {
-                status,
-                refusal: Some(refusal),
-                rows,
-            }
-        }
+        Err(refusal) => refused_end(alloc, press, refusal),
     }
 }
 

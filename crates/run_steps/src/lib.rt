@@ -10,6 +10,6 @@ mod step_lines;
 
 pub use laws::limits_are_stated;
 pub use lines::{making_text, say_line};
-pub use press_notes::PressNotes;
+pub use press_notes::{LastName, NotedPress, Notes};
 pub use progress::{ToldPress, ToldShelf};
 pub use step_lines::RunSteps;

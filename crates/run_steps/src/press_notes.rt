@@ -1,6 +1,6 @@
-//! A press that notes the name of what it makes, for what is said of it afterwards.
+//! A press that notes what it makes, for what is said of it afterwards.
 
-ghost use Rattle.std.specs.Prelude.{◌≡◌, ◌<◌, ◌≤◌, false, true, length, take, string_bytes, is_err, IfOk, IsTrue, OnErr, OnOk};
+ghost use Rattle.std.specs.Prelude.{◌≡◌, ◌<◌, ◌≤◌, ℕ, List, false, true, length, take, string_bytes, is_err, IfOk, IsTrue, OnErr, OnOk};
 ghost use Rattle.shelf_io.specs.Count.{HasCause};
 ghost use Rattle.shelf_io.specs.Made.{Adds, Appends, HasSameFiles, Lacks};
 ghost use Rattle.run_steps.specs.PressNotes.{IsNamed};
@@ -8,38 +8,48 @@ ghost use Rattle.run_steps.specs.PressNotes.{IsNamed};
 use shelf_io::{Failed, Press};
 use std::alloc::Global;
 
-/// A press over a press, which keeps the name of the file that was begun last, as far as memory lasts.
+/// What is noted of the files that a press begins.
+pub trait Notes {
+    /// What may be noted once a file of this name is begun, from what was noted before.
+    ghost notes: { Self → List ℕ → Self → Type 0 };
+
+    /// Notes that a file is begun.
+    fn note(&mut self, name: &str)
+        ensures { notes self.old name.now self.new };
+}
+
+/// A press over a press, with notes of the files that are begun.
 #[derive(Drop)]
-pub struct PressNotes<P: Drop> {
+pub struct NotedPress<P: Drop, N: Drop> {
     pub press: P,
-    /// The name of the file that was begun last, or nothing where memory ran out.
+    pub notes: N,
+}
+
+/// The name of the file that was begun last, or nothing where memory ran out.
+#[derive(Drop)]
+pub struct LastName {
     pub name: String,
 }
 
-impl<P: Press + Drop> PressNotes<P> {
-    /// The press, with nothing noted of it yet.
-    pub fn new(alloc: Global, press: P) -> Self
-        ensures { result.press ≡ press }
-    {
-        PressNotes {
-            press,
+impl LastName {
+    /// No name yet.
+    pub fn new(alloc: Global) -> Self {
+        LastName {
             name: String::new(alloc),
         }
     }
 }
 
-impl<P: Drop> PressNotes<P> {
-    /// Keeps the name of the file that is begun. Where memory runs out none is kept.
-    fn keep_name(&mut self, name: &str)
-        ensures press { self.new.press ≡ self.old.press }
-        ensures name { IsNamed name.now (string_bytes self.new.name) }
-    {
+impl Notes for LastName {
+    ghost notes = { λ before name after. IsNamed name (string_bytes after.name) };
+
+    fn note(&mut self, name: &str) {
         self.name.clear();
         let _ = self.name.push_str(name);
     }
 }
 
-impl<P: Press + Drop> Press for PressNotes<P> {
+impl<P: Press + Drop, N: Notes + Drop> Press for NotedPress<P, N> {
     ghost made = { λ p. P.made p.press };
 
     ghost at_hand = { λ p. P.at_hand p.press };
@@ -58,9 +68,9 @@ impl<P: Press + Drop> Press for PressNotes<P> {
         ensures cause { HasCause (P.faults self.old.press) (P.faults self.new.press) result }
         ensures broken { P.broken self.new.press ≡ is_err result }
 
-        ensures name { IsNamed name.now (string_bytes self.new.name) }
+        ensures notes { N.notes self.old.notes name.now self.new.notes }
     {
-        self.keep_name(name);
+        self.notes.note(name);
         self.press.begin(name)
     }
 
@@ -74,7 +84,7 @@ impl<P: Press + Drop> Press for PressNotes<P> {
         ensures cause { HasCause (P.faults self.old.press) (P.faults self.new.press) result }
         ensures broken { P.broken self.new.press ≡ is_err result }
 
-        ensures name { self.new.name ≡ self.old.name }
+        ensures notes { self.new.notes ≡ self.old.notes }
     {
         self.press.write(piece)
     }
@@ -86,7 +96,7 @@ impl<P: Press + Drop> Press for PressNotes<P> {
         ensures cause { HasCause (P.faults self.old.press) (P.faults self.new.press) result }
         ensures broken { P.broken self.new.press ≡ is_err result }
 
-        ensures name { self.new.name ≡ self.old.name }
+        ensures notes { self.new.notes ≡ self.old.notes }
     {
         self.press.end()
     }

@@ -1,10 +1,11 @@
 //! Each certificate that a migration writes is accepted, and refused once one byte or number of it, or one byte of the
 //! written layer, is another.
 
-use crate::memory_runs::{NEVER, SQUARE, TRIANGLE, add_file, ends_over, ran_over, shelf_of};
+use crate::memory_runs::{NEVER, add_file, ends_over, ran_over, shelf_of};
 use runs::Status;
 use shelf_io::{MemPress, MemShelf};
 use std::alloc::{AllocError, Global};
+use tin_texts::{SQUARE, TRIANGLE};
 
 /// The bytes with one of them changed to one that is in no certificate.
 fn changed_at(alloc: Global, bytes: &[u8], at: usize) -> Result<Vec<u8>, AllocError> {

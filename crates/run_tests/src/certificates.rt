@@ -1,8 +1,9 @@
 //! Runs in memory that write certificates, and that verify written layers by them. What is expected is worked out by
 //! hand.
 
-use crate::memory_runs::{Files, MemoryJob, SQUARE, Table, other_job};
+use crate::memory_runs::{Files, MemoryJob, Table, other_job};
 use runs::Status;
+use tin_texts::SQUARE;
 
 /// A line across the diagonal of the square, and the line as it is carried.
 const LINE: &str = "LINESTRING (10 0, 0 10)";

@@ -1,8 +1,9 @@
 //! Runs over whole drawings, in memory. The expected texts and lines are worked out by hand.
 
-use crate::memory_runs::{Made, MemoryJob, SQUARE, makes, other_job};
+use crate::memory_runs::{Made, MemoryJob, makes, other_job};
 use runs::Status;
 use std::alloc::{AllocError, Global};
+use tin_texts::SQUARE;
 
 /// A drawing up to the end of its entities: a line across the diagonal, and a line on a layout of paper.
 const FRONT: &str =

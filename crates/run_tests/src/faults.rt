@@ -1,10 +1,11 @@
 //! Runs over one triangle and a layer of points: worked examples, and calls of the outside that fail.
 
 use crate::memory_runs::{
-    CarriedRow, CarriedTable, Failing, FailingTable, Files, MIGRATE, MemoryJob, NEVER, TRIANGLE,
+    CarriedRow, CarriedTable, Failing, FailingTable, Files, MIGRATE, MemoryJob, NEVER,
     other_carried, other_fault, other_job,
 };
 use runs::Status;
+use tin_texts::TRIANGLE;
 
 /// The same triangle with targets around zero.
 const TRIANGLE_AT_ZERO: &str = concat!(

@@ -1,7 +1,8 @@
 //! Runs over whole layers of GeoJSON, in memory. The expected texts and lines are worked out by hand.
 
-use crate::memory_runs::{CarriedRow, CarriedTable, SQUARE, TRIANGLE, other_carried};
+use crate::memory_runs::{CarriedRow, CarriedTable, other_carried};
 use runs::Status;
+use tin_texts::{SQUARE, TRIANGLE};
 
 /// A line across the diagonal and a feature without a place, laid out as ogr2ogr lays them out.
 const PARCELS: &str = concat!(

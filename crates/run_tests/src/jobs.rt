@@ -1,10 +1,10 @@
 //! Runs in memory over the words of whole jobs: several layers and the options.
 
 use crate::memory_runs::{
-    Failing, FailingTable, Files, Made, MemoryJob, NEVER, SQUARE, TRIANGLE, Table, other_fault,
-    other_job,
+    Failing, FailingTable, Files, Made, MemoryJob, NEVER, Table, other_fault, other_job,
 };
 use runs::Status;
+use tin_texts::{SQUARE, TRIANGLE};
 
 /// The triangle with a fallback.
 const NEAREST: &str = concat!(

@@ -1,7 +1,8 @@
 //! Runs over whole layers, in memory. The expected texts and lines are worked out by hand.
 
-use crate::memory_runs::{CarriedRow, CarriedTable, SQUARE, TRIANGLE, other_carried};
+use crate::memory_runs::{CarriedRow, CarriedTable, other_carried};
 use runs::Status;
+use tin_texts::{SQUARE, TRIANGLE};
 
 /// Triangles in the shape of the letter L.
 const CORNER: &str = concat!(

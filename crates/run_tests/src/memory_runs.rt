@@ -7,23 +7,6 @@ use shelf_io::{MemPress, MemShelf, Shelf};
 use std::alloc::{AllocError, Global};
 use whole_runs::run;
 
-/// A triangle with corners at (0, 0), (10, 0) and (0, 10), whose side along x is two millimetres longer in the target.
-pub const TRIANGLE: &str = concat!(
-    r#"{"file_type":"triangulation_file","format_version":"1.1","transformed_components":["horizontal"],"#,
-    r#""vertices_columns":["source_x","source_y","target_x","target_y"],"#,
-    r#""triangles_columns":["idx_vertex1","idx_vertex2","idx_vertex3"],"#,
-    r#""vertices":[[0,0,100,100],[10,0,110.002,100],[0,10,100,110]],"triangles":[[0,1,2]]}"#
-);
-
-/// Two triangles that make a square, whose diagonal is longer in the target.
-pub const SQUARE: &str = concat!(
-    r#"{"file_type":"triangulation_file","format_version":"1.1","transformed_components":["horizontal"],"#,
-    r#""vertices_columns":["source_x","source_y","target_x","target_y"],"#,
-    r#""triangles_columns":["idx_vertex1","idx_vertex2","idx_vertex3"],"#,
-    r#""vertices":[[0,0,100,100],[10,0,110,100],[10,10,110.003,110.003],[0,10,100,110]],"#,
-    r#""triangles":[[0,1,2],[0,2,3]]}"#
-);
-
 /// Adds a word.
 fn add_word(alloc: Global, words: &mut Vec<String>, text: &str) -> Result<(), AllocError> {
     let word = String::from_str(alloc, text)?;

@@ -4,11 +4,12 @@
 ghost use Rattle.std.specs.Prelude.{◌≡◌, ◌<◌, [], None, IfOk};
 
 use crate::memory_runs::{
-    Failing, FailingTable, Files, NEVER, SQUARE, TRIANGLE, holds, other_fault, ran_over, words_of,
+    Failing, FailingTable, Files, NEVER, holds, other_fault, ran_over, words_of,
 };
 use runs::Status;
 use shelf_io::{MemShelf, SurePress, SureShelf};
 use std::alloc::{AllocError, Global};
+use tin_texts::{SQUARE, TRIANGLE};
 use whole_runs::run_surely;
 
 const TWO: [&str; 7] = ["migrate", "--tin", "t.json", "--out", "o", "a.wkt", "b.wkt"];

@@ -1,10 +1,11 @@
 //! Runs that put the changes of sides of rings on the map. The expected texts are worked out by hand.
 
-use crate::memory_runs::{SQUARE, shelf_of, words_of};
+use crate::memory_runs::{shelf_of, words_of};
 use place_runs::run;
 use runs::Status;
 use shelf_io::MemPress;
 use std::alloc::{AllocError, Global};
+use tin_texts::SQUARE;
 
 /// A triangle whose frames differ by the half: each point goes to half of its coordinates.
 const HALVED: &str = concat!(

@@ -1,10 +1,11 @@
 //! Words of the program that puts changes on the map, and what it hands out. The expected texts are worked out by hand.
 
-use crate::memory_runs::{NEVER, SQUARE, add_file, words_of};
+use crate::memory_runs::{NEVER, add_file, words_of};
 use place_runs::run_to_end;
 use runs::{Refusal, Status};
 use shelf_io::{MemPress, MemShelf};
 use std::alloc::{AllocError, Global};
+use tin_texts::SQUARE;
 
 /// Files by their names and texts.
 type Files = &'static [(&'static str, &'static str)];

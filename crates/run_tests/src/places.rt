@@ -1,6 +1,6 @@
 //! Runs of the program that puts changes on the map, over files in memory. The expected texts are worked out by hand.
 
-use crate::memory_runs::{NEVER, SQUARE, add_file, words_of};
+use crate::memory_runs::{NEVER, add_file, words_of};
 use place_runs::{run, run_to_end};
 use report_text::LayerRow;
 use run_steps::{RunSteps, ToldPress, ToldShelf};
@@ -8,6 +8,7 @@ use runs::Status;
 use shelf_io::{MemPress, MemShelf};
 use std::alloc::{AllocError, Global};
 use std::test::Fail;
+use tin_texts::SQUARE;
 
 /// A line across the diagonal, and a point of it.
 const LINES: &str = "LINESTRING (10 0, 0 10)\nPOINT (6 4)\n";

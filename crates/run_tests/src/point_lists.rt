@@ -1,36 +1,12 @@
 //! Runs in memory that move points with heights. What is expected is worked out by hand.
 
-use crate::memory_runs::{MemoryJob, TRIANGLE, Table, other_job};
+use crate::memory_runs::{MemoryJob, Table, other_job};
 use runs::Status;
-
-/// A file that moves heights alone, of one triangle with the offsets 1, 2 and -1 m.
-const STILL: &str = concat!(
-    r#"{"file_type":"triangulation_file","format_version":"1.1","transformed_components":["vertical"],"#,
-    r#""vertices_columns":["source_x","source_y","offset_z"],"#,
-    r#""triangles_columns":["idx_vertex1","idx_vertex2","idx_vertex3"],"vertices":[[0,0,1],[10,0,2],[0,10,-1]],"#,
-    r#""triangles":[[0,1,2]]}"#
-);
-
-/// A file that moves both, with the same offsets.
-const BOTH: &str = concat!(
-    r#"{"file_type":"triangulation_file","format_version":"1.1","#,
-    r#""transformed_components":["horizontal","vertical"],"#,
-    r#""vertices_columns":["source_x","source_y","target_x","target_y","offset_z"],"#,
-    r#""triangles_columns":["idx_vertex1","idx_vertex2","idx_vertex3"],"#,
-    r#""vertices":[[0,0,100,100,1],[10,0,110.002,100,2],[0,10,100,110,-1]],"triangles":[[0,1,2]]}"#
-);
-
-/// A file whose last row is the first corner with another offset.
-const TWOFOLD: &str = concat!(
-    r#"{"file_type":"triangulation_file","format_version":"1.1","transformed_components":["vertical"],"#,
-    r#""vertices_columns":["source_x","source_y","offset_z"],"#,
-    r#""triangles_columns":["idx_vertex1","idx_vertex2","idx_vertex3"],"#,
-    r#""vertices":[[0,0,1],[10,0,2],[0,10,-1],[0,0,2]],"triangles":[[0,1,2]]}"#
-);
+use tin_texts::{MOVED, STILL, TRIANGLE, TWOFOLD};
 
 const HEIGHTS: [&str; 6] = ["heights", "--tin", "t.json", "--out", "o", "in/list"];
 
-const MOVED: &[MemoryJob] = &[
+const RAISED: &[MemoryJob] = &[
     (
         &HEIGHTS,
         &[
@@ -51,7 +27,7 @@ const MOVED: &[MemoryJob] = &[
     ),
     (
         &HEIGHTS,
-        &[("t.json", BOTH), ("in/list", "5 0 10")],
+        &[("t.json", MOVED), ("in/list", "5 0 10")],
         Status::Same,
         &[
             ("o/list", Some("105.001 100.000 11.500")),
@@ -138,6 +114,6 @@ const REFUSED: &[MemoryJob] = &[
 
 #[test]
 fn moves_points_with_heights(rt: HostRuntime) {
-    let tables: &[Table<MemoryJob>] = &[("moved", MOVED), ("refused", REFUSED)];
+    let tables: &[Table<MemoryJob>] = &[("raised", RAISED), ("refused", REFUSED)];
     assert_eq!(rt; other_job(rt.alloc(), tables), None);
 }

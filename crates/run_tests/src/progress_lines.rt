@@ -1,13 +1,14 @@
 //! What a run says of what it is doing, and that it is the same run whether or not it is heard.
 
-use crate::memory_runs::{MIGRATE, NEVER, TRIANGLE, ran_over, words_of};
-use run_steps::{PressNotes, RunSteps, ToldPress, ToldShelf, making_text, say_line};
+use crate::memory_runs::{MIGRATE, NEVER, ran_over, words_of};
+use run_steps::{LastName, NotedPress, RunSteps, ToldPress, ToldShelf, making_text, say_line};
 use runs::Status;
 use shelf_io::{MemPress, MemShelf, load, print};
 use std::alloc::{AllocError, Global};
 use std::io::{ErrorKind, Write};
 use std::test::Fail;
 use std::{fmt, io};
+use tin_texts::TRIANGLE;
 use whole_runs::run;
 
 /// The steps of a migration of this many layers.
@@ -336,11 +337,14 @@ fn each_mebibyte_that_is_written_is_a_point(rt: HostRuntime) -> Result<(), Fail>
 
 /// Whether the names of the files that are made are noted.
 fn are_noted(alloc: Global) -> bool {
-    let mut press = PressNotes::new(alloc, MemPress::new(alloc, 2));
-    if print(&mut press, "o/a.wkt", b"456").is_err() || press.name.as_str() != "o/a.wkt" {
+    let mut press = NotedPress {
+        press: MemPress::new(alloc, 2),
+        notes: LastName::new(alloc),
+    };
+    if print(&mut press, "o/a.wkt", b"456").is_err() || press.notes.name.as_str() != "o/a.wkt" {
         return false;
     }
-    print(&mut press, "-", b"12345").is_ok() && press.name.as_str() == "-"
+    print(&mut press, "-", b"12345").is_ok() && press.notes.name.as_str() == "-"
 }
 
 #[test]

@@ -1,13 +1,12 @@
 //! What runs report, in memory. The expected relations are worked out by hand, in fractions.
 
-use crate::memory_runs::{
-    CarriedRow, CarriedTable, NEVER, SQUARE, other_carried, shelf_of, words_of,
-};
+use crate::memory_runs::{CarriedRow, CarriedTable, NEVER, other_carried, shelf_of, words_of};
 use report_text::LayerRow;
 use runs::Status;
 use shelf_io::MemPress;
 use std::alloc::{AllocError, Global};
 use std::test::Fail;
+use tin_texts::SQUARE;
 use whole_runs::run_to_end;
 
 /// Nine corners 10 km apart, in the old and the new frame of Switzerland, with shifts of some decimetres.

@@ -1,6 +1,6 @@
 //! Runs in memory that state the sides of rings. What is expected is worked out by hand, in fractions.
 
-use crate::memory_runs::{Files, Made, MemoryJob, SQUARE, Table, other_job};
+use crate::memory_runs::{Files, Made, MemoryJob, Table, other_job};
 use carry_map::{MOST_PIECES, carry_kept};
 use ring_side::{Side, SideChange, SidesFault, Spot, side_changes};
 use runs::Status;
@@ -9,6 +9,7 @@ use std::alloc::Global;
 use tin_check::check_tin;
 use tin_file::read_tin;
 use tin_index::TinIndex;
+use tin_texts::SQUARE;
 use wkt_layer::Wkt;
 
 /// A triangle whose frames differ by the half: each point goes to half of its coordinates.

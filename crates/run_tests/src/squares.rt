@@ -1,6 +1,5 @@
 //! Calls of the crates below, put together over a square of two triangles. What is expected is worked out by hand.
 
-use crate::memory_runs::SQUARE;
 use carry_map::{MOST_PIECES, carry};
 use plane_base::Pt;
 use sheet_base::{How, Layer};
@@ -9,6 +8,7 @@ use tin_base::{Change, Place, Rel};
 use tin_check::check_tin;
 use tin_file::read_tin;
 use tin_index::TinIndex;
+use tin_texts::SQUARE;
 use topo_check::{ChangesFault, changes};
 use wkt_layer::Wkt;
 

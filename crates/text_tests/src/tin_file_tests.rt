@@ -5,6 +5,7 @@ use sheet_base::How;
 use std::alloc::Global;
 use tin_base::{Axis, Corner, Frame, Tin};
 use tin_file::{MOST_BYTES, Nearest, Rows, TinFault, Top, read_tin};
+use tin_texts::TRIANGLE;
 
 const PLAIN: How = How {
     exact: false,
@@ -21,14 +22,6 @@ const INSIDE: How = How {
     inside_only: true,
     ..PLAIN
 };
-
-/// A file of one triangle. Most other files are this one with a stretch of it replaced.
-const FILE: &str = concat!(
-    r#"{"file_type":"triangulation_file","format_version":"1.1","transformed_components":["horizontal"],"#,
-    r#""vertices_columns":["source_x","source_y","target_x","target_y"],"#,
-    r#""triangles_columns":["idx_vertex1","idx_vertex2","idx_vertex3"],"#,
-    r#""vertices":[[0,0,100,100],[10,0,110.002,100],[0,10,100,110]],"triangles":[[0,1,2]]}"#
-);
 
 /// The same triangle in a file of version 1.0, with names and columns in another order.
 const NAMED: &str = concat!(
@@ -88,9 +81,9 @@ fn read(alloc: Global, text: &str, how: How) -> Result<Tin, TinFault> {
     read_tin(alloc, bytes, how)
 }
 
-/// The file with the first such stretch replaced, or none where it has none.
+/// The triangle with the first such stretch of its text replaced, or none where it has none.
 fn changed_file(alloc: Global, part: &str, by: &str) -> Option<String> {
-    let (front, behind) = FILE.split_once(part)?;
+    let (front, behind) = TRIANGLE.split_once(part)?;
     let mut text = String::new(alloc);
     text.push_str(front).ok()?;
     text.push_str(by).ok()?;
@@ -98,7 +91,7 @@ fn changed_file(alloc: Global, part: &str, by: &str) -> Option<String> {
     Some(text)
 }
 
-/// The corners of the file's triangle.
+/// The corners of the triangle.
 const CORNERS: &[Corner] = &[
     Corner {
         sx: 0,
@@ -159,7 +152,7 @@ fn first_other_change(alloc: Global, rows: &[FileChange]) -> Option<&'static str
 
 /// Files of the same triangle.
 const FILES: &[(&str, How)] = &[
-    (FILE, PLAIN),
+    (TRIANGLE, PLAIN),
     (NAMED, PLAIN),
     (NOTED, PLAIN),
     (WEIGHTED, EXACT),

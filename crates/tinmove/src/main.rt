@@ -10,10 +10,10 @@ use job_words::{Job, read_words};
 use large_blocks::keep_large_blocks;
 use outputs::outputs_of;
 use run_notes::{
-    KindPress, Owner, Usage, Words, owners_of, say_border, say_degrees, say_layers, say_meetings,
+    KindNotes, Owner, Usage, Words, owners_of, say_border, say_degrees, say_layers, say_meetings,
     say_owners, say_refusal, say_unwritten, steps_of, words_of,
 };
-use run_steps::{PressNotes, ToldPress, ToldShelf, making_text, say_line};
+use run_steps::{LastName, NotedPress, ToldPress, ToldShelf, making_text, say_line};
 use runs::Status;
 use shelf_io::{FilePress, FileShelf};
 use std::alloc::Global;
@@ -108,8 +108,15 @@ fn run_on_files(rt: &HostRuntime, words: &Words) -> Status {
     }
     let steps = steps_of(job, true);
     let mut shelf = ToldShelf::new(shelf, terminal, steps);
-    let notes = PressNotes::new(rt.alloc(), KindPress::new(rt, job, press));
-    let mut press = ToldPress::new(notes, terminal, steps);
+    let kinds = NotedPress {
+        press,
+        notes: KindNotes::new(rt, job),
+    };
+    let names = NotedPress {
+        press: kinds,
+        notes: LastName::new(rt.alloc()),
+    };
+    let mut press = ToldPress::new(names, terminal, steps);
     let RunEnd {
         status,
         report,
@@ -118,7 +125,7 @@ fn run_on_files(rt: &HostRuntime, words: &Words) -> Status {
     } = run_to_end(rt.alloc(), &words.words, &mut shelf, &mut press);
     if status == Status::Write {
         let _ = press.clear();
-        say_unwritten(rt, press.press.name.as_str());
+        say_unwritten(rt, press.press.notes.name.as_str());
     }
     if let Some(refusal) = refusal {
         let usage = Usage {
@@ -129,7 +136,7 @@ fn run_on_files(rt: &HostRuntime, words: &Words) -> Status {
     }
     if status == Status::Same || status == Status::Changed {
         if let Some(report) = report {
-            let kinds = press.press.press.found.as_deref();
+            let kinds = press.press.press.notes.found.as_deref();
             say_layers(rt, report.layers(), kinds.unwrap_or(&[]));
         }
         say_after(rt, job, &outputs, &owners, sound.as_ref());

@@ -2,7 +2,7 @@
 use Rattle.std.proofs.Common.{◌≡◌, ◌≢◌, ◌⊎◌, inl, inr, ℕ, ◌≤◌, length, List, [], ◌∷◌, Option}
 use Rattle.std.proofs.Common.{None, Some, IfSome, refl, sym, ◌∙◌, ap, ap₂, subst, map, ◌++◌}
 use Rattle.std.specs.Prelude.{codes, OnOk, Result, Ok, Err}
-use Rattle.shelf_io.specs.Files.{Files, bytes_of}
+use Rattle.shelf_io.specs.Files.{Files}
 use Rattle.shelf_io.specs.Load.{Loads, LacksName, IsLonger}
 use Rattle.sheet_base.specs.declared.edits.Edit.{Edit}
 use Rattle.sheet_base.specs.declared.faults.LayerFault.{LayerFault}
@@ -37,7 +37,7 @@ use Rattle.runs.specs.Causes.{by_the_files, unread, no_room, HasCauses}
 use Rattle.runs.specs.Loads.{IsUnloaded, missing, read_failed, too_long, no_memory, IsTinUnready, not_loaded, no_tin}
 use Rattle.runs.proofs.Faults.{unread_layer, layer_without_room, of_layer}
 use Rattle.runs.proofs.Faults.{IsOfTin, refused_tin, limited_tin, tin_without_room}
-use Rattle.runs.proofs.Faults.{of_text, of_check, not_read, tin_understood}
+use Rattle.runs.proofs.TinCauses.{fault_causes, check_causes}
 use Rattle.runs.proofs.TinRefusals.{without_file, without_read, without_room, unready}
 use Rattle.verify_mode.specs.declared.verifications.Verification.{Verification}
 use Rattle.verify_mode.specs.Files.{HasWayOver, IsFileWithinOver, HaveTextsOver, AreUnloaded, no_source, no_written}
@@ -134,24 +134,8 @@ tin_end status (tin_without_room is) = rw is tt
 
 text_causes : (lacks : Type 0) (counts : ShelfCounts) (how : How) (text : List ℕ) (refusal : Refusal)
     → IsTextRefused how text refusal → HasCauses lacks IsEndOfVerification counts refusal
-text_causes lacks counts how text (Tin fault) why = record {
-  understood = tin_understood (status_of (Tin fault)) (of_text fault);
-  read = λ e. absurd (not_read (status_of (Tin fault)) (of_text fault) e);
-  tin_long = λ e. cc;
-  layers_long = λ e. cc;
-  written_long = λ e. cc;
-  cert_long = λ e. cc;
-  may_end = tin_end (status_of (Tin fault)) (of_text fault);
-}
-text_causes lacks counts how text (Check fault) why = record {
-  understood = tin_understood (status_of (Check fault)) (of_check fault);
-  read = λ e. absurd (not_read (status_of (Check fault)) (of_check fault) e);
-  tin_long = λ e. cc;
-  layers_long = λ e. cc;
-  written_long = λ e. cc;
-  cert_long = λ e. cc;
-  may_end = tin_end (status_of (Check fault)) (of_check fault);
-}
+text_causes lacks counts how text (Tin fault) why = fault_causes lacks IsEndOfVerification counts tin_end fault
+text_causes lacks counts how text (Check fault) why = check_causes lacks IsEndOfVerification counts tin_end fault
 text_causes lacks counts how text NoMemory why = memory_causes lacks counts NoMemory refl
 text_causes lacks counts how text refusal why = absurd why
 

@@ -4,20 +4,22 @@ use Rattle.std.proofs.Common.{ap, subst}
 use Rattle.shelf_io.specs.Files.{Files}
 use Rattle.job_words.specs.declared.faults.WordsFault.{WordsFault}
 use Rattle.job_words.specs.declared.faults.WordsFault.TheVariants.{NoMemory as WordsMemory}
+use Rattle.report_text.specs.declared.rows.LayerRow.{LayerRow}
 use Rattle.runs.specs.declared.status.Status.{Status}
 use Rattle.runs.specs.declared.refusal.Refusal.{Refusal}
 use Rattle.runs.specs.declared.refusal.Refusal.TheVariants.{Words}
 use Rattle.runs.specs.Refusals.{status_of, line_file}
 use Rattle.runs.specs.Causes.{HasCauses, by_the_files, unread, no_room}
 use Rattle.runs.specs.Counts.{ShelfCounts}
-use Rattle.runs.proofs.RefusalLines.{memory-line}
+use Rattle.runs.proofs.RefusalLines.{memory-line, never-write}
 use Rattle.runs.proofs.RunEnds.{by_memory}
 use Rattle.publication.specs.Fronts.{HasWritten}
 use Rattle.publication.specs.RunEnds.{HasStatusCauses}
-use Rattle.publication.proofs.RunEnds.{refusal_causes}
+use Rattle.publication.proofs.RunEnds.{refusal_causes, handed_out}
 use Rattle.migrate_mode.specs.Migrations.{MayRefuseMigration, LacksWanted}
 use Rattle.place_runs.specs.declared.requests.Request.{Request}
 use Rattle.place_runs.specs.Words.{AsksPlaces, LacksPlaces, LacksRequest}
+use Rattle.place_runs.specs.HandedOut.{HandsOut, IsRefusalOfRun}
 use Rattle.place_runs.specs.Outcome.{no_job, refused, done}
 use Rattle.place_runs.specs.Places.{IsPlacesDone}
 use Rattle.place_runs.specs.Ends.{Makes, by_outcome, after_read_fault, out_of_memory, IsJsonFile, LacksWantedOf}
@@ -58,6 +60,21 @@ makes_no_job words files shelf_rose fault lacks =
     (λ f other lacks. by_outcome (no_job f (lacks other) (record { status_is = refl; made_is = refl }))) fault lacks
 
 -- ---- a refusal
+-- it is handed out where its line was printed and no rows are
+pub refusal_handed : (words : List (List ℕ)) (told : Option Files) (counts : ShelfCounts) (refusal : Refusal)
+    (status : Status) (made : Option Files) (handed : Option Refusal) (rows : List LayerRow)
+    → HasWritten (line_file refusal) (status_of refusal) status made → handed ≡ Some refusal → rows ≡ []
+    → IsRefusalOfRun words told counts refusal → HandsOut words told counts status made handed rows
+refusal_handed words told counts refusal status made handed rows written is none why =
+    subst (λ (h : Option Refusal). HandsOut words told counts status made h rows) (sym is) (record {
+      refusal = handed_out _ (line_file refusal) (status_of refusal) status made (never-write refusal) written why;
+      done = tt;
+      status_is = tt;
+      json = tt;
+      rows_are = tt;
+      no_rows = none;
+    })
+
 -- words that ask for a migration have no fault
 pub asks_or_lacks : (words : List (List ℕ)) (request : Request) → AsksPlaces words request → LacksRequest words → ⊥
 asks_or_lacks words request asks (fault, lacks) = let e = sym asks ∙ lacks in cc

@@ -1,5 +1,5 @@
 -- Answers to the goals of `run_to_end` in src/run_ends.rt.
-use Rattle.std.proofs.Common.{[], inl, inr, map, string_bytes, codes, ◌∷◌, refl, rules}
+use Rattle.std.proofs.Common.{[], inl, inr, map, string_bytes, codes, ◌∷◌, refl}
 use Rattle.runs.specs.declared.refusal.Refusal.TheVariants.{Words}
 use Rattle.runs.specs.Status.{end_of}
 use Rattle.runs.specs.Refusals.{status_of, line_file}
@@ -7,41 +7,34 @@ use Rattle.runs.proofs.RefusalLines.{never-write}
 use Rattle.runs.proofs.RunEnds.{never-write-end, told, told_always, done_end}
 use Rattle.publication.proofs.Fronts.{written_front}
 use Rattle.publication.proofs.LimitFronts.{limit_apart}
-use Rattle.publication.proofs.RunEnds.{ends_so, handed_out, words_causes, plain_causes, end_understood, end_unread}
+use Rattle.publication.proofs.RunEnds.{ends_so, words_causes, plain_causes, end_understood, end_unread}
 use Rattle.place_runs.specs.Ends.{Makes}
 use Rattle.place_runs.proofs.Outcomes.RunEnds.{makes_refusal, makes_places, makes_no_job, asks_or_lacks, request_causes}
-use Rattle.place_runs.proofs.Outcomes.RunEnds.{json_told}
+use Rattle.place_runs.proofs.Outcomes.RunEnds.{json_told, refusal_handed}
 use Rattle.place_runs.proofs.PrintedMaps.TextLimits.{text_apart}
 use Rattle.place_runs.proofs.run_ends.run_to_end.Goals as goal
 
 -- ---- words that are not understood
 pub returns-in-Err-clause-ends : goal.returns-in-Err-clause-ends
 returns-in-Err-clause-ends g c =
+    let e = c.refused_end.ensures in
     let fault = c.in-Err.fault in
     told_always (g.S.Shelf.files c.args.shelf.now) (λ files.
     ends_so (Makes (map string_bytes c.args.words.now) files _) _ (line_file (Words fault)) (status_of (Words fault))
-    c.refuse.result (g.P.Press.made c.refuse.new.press) (never-write (Words fault))
-    (makes_no_job (map string_bytes c.args.words.now) files _ fault c.in-Err.ensures.refused)
-    c.refuse.ensures.written c.refuse.ensures.press.rose)
+    c.refused_end.result.status (g.P.Press.made c.refused_end.new.press) (never-write (Words fault))
+    (makes_no_job (map string_bytes c.args.words.now) files _ fault c.in-Err.ensures.refused) e.written e.press.rose)
 
 pub returns-in-Err-clause-causes : goal.returns-in-Err-clause-causes
 returns-in-Err-clause-causes g c =
-    words_causes _ _ _ c.refuse.result _ c.in-Err.fault (λ other. (c.in-Err.fault, c.in-Err.ensures.refused other))
-    c.refuse.ensures.written
+    words_causes _ _ _ c.refused_end.result.status _ c.in-Err.fault
+    (λ other. (c.in-Err.fault, c.in-Err.ensures.refused other)) c.refused_end.ensures.written
 
 pub returns-in-Err-clause-handed : goal.returns-in-Err-clause-handed
 returns-in-Err-clause-handed g c =
-    let fault = c.in-Err.fault in
-    record {
-      refusal = handed_out _ (line_file (Words fault)) (status_of (Words fault)) c.refuse.result
-          (g.P.Press.made c.refuse.new.press) (never-write (Words fault)) c.refuse.ensures.written
-          (inl (fault, refl, c.in-Err.ensures.refused));
-      done = tt;
-      status_is = tt;
-      json = tt;
-      rows_are = tt;
-      no_rows = search rules;
-    }
+    let e = c.refused_end.ensures in
+    refusal_handed (map string_bytes c.args.words.now) (g.S.Shelf.files c.args.shelf.now) _ (Words c.in-Err.fault)
+    c.refused_end.result.status (g.P.Press.made c.refused_end.new.press) _ _ e.written e.refusal e.rows
+    (inl (c.in-Err.fault, refl, c.in-Err.ensures.refused))
 
 -- ---- changes that are printed
 pub say_map-status-requires-clause-other : goal.say_map-status-requires-clause-other
@@ -106,37 +99,34 @@ returns-in-Ok-prepare_places-clause-handed g c =
 -- ---- a migration that is refused
 pub returns-clause-ends : goal.returns-clause-ends
 returns-clause-ends g c =
+    let e = c.refused_end-in-Err-prepare_places.ensures in
     let refusal = c.in-Err-prepare_places.refusal in
     told (g.S.Shelf.files c.args.shelf.now) (λ files is.
     ends_so (Makes (map string_bytes c.args.words.now) files _) _ (line_file refusal) (status_of refusal)
-    c.refuse-status.result (g.P.Press.made c.refuse-status.new.press) (never-write refusal)
+    c.refused_end-in-Err-prepare_places.result.status (g.P.Press.made c.refused_end-in-Err-prepare_places.new.press)
+    (never-write refusal)
     (makes_refusal (map string_bytes c.args.words.now) files _ c.in-Ok.request refusal c.in-Ok.ensures.asks is)
-    c.refuse-status.ensures.written c.refuse-status.ensures.press.rose)
+    e.written e.press.rose)
     c.in-Err-prepare_places.ensures.refused
 
 pub returns-clause-causes : goal.returns-clause-causes
 returns-clause-causes g c =
     request_causes (map string_bytes c.args.words.now) (g.S.Shelf.files c.args.shelf.now) _ c.in-Ok.request
-    c.in-Err-prepare_places.refusal c.refuse-status.result (g.P.Press.made c.refuse-status.new.press)
-    c.in-Ok.ensures.asks c.in-Err-prepare_places.ensures.causes c.refuse-status.ensures.written
+    c.in-Err-prepare_places.refusal c.refused_end-in-Err-prepare_places.result.status
+    (g.P.Press.made c.refused_end-in-Err-prepare_places.new.press) c.in-Ok.ensures.asks
+    c.in-Err-prepare_places.ensures.causes c.refused_end-in-Err-prepare_places.ensures.written
 
 pub returns-clause-handed : goal.returns-clause-handed
 returns-clause-handed g c =
-    let refusal = c.in-Err-prepare_places.refusal in
-    record {
-      refusal = handed_out _ (line_file refusal) (status_of refusal) c.refuse-status.result
-          (g.P.Press.made c.refuse-status.new.press) (never-write refusal) c.refuse-status.ensures.written
-          (inr (
-            c.in-Ok.request,
-            c.in-Ok.ensures.asks,
-            record {
-              refused = c.in-Err-prepare_places.ensures.refused;
-              counted = c.in-Err-prepare_places.ensures.causes;
-            },
-          ));
-      done = tt;
-      status_is = tt;
-      json = tt;
-      rows_are = tt;
-      no_rows = search rules;
-    }
+    let e = c.refused_end-in-Err-prepare_places.ensures in
+    refusal_handed (map string_bytes c.args.words.now) (g.S.Shelf.files c.args.shelf.now) _
+    c.in-Err-prepare_places.refusal c.refused_end-in-Err-prepare_places.result.status
+    (g.P.Press.made c.refused_end-in-Err-prepare_places.new.press) _ _ e.written e.refusal e.rows
+    (inr (
+      c.in-Ok.request,
+      c.in-Ok.ensures.asks,
+      record {
+        refused = c.in-Err-prepare_places.ensures.refused;
+        counted = c.in-Err-prepare_places.ensures.causes;
+      },
+    ))

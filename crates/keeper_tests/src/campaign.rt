@@ -1,8 +1,6 @@
-//! Commands over a keeper in memory, and their replies.
+//! The commands of a campaign with one run, and their replies.
 
-use ledger_core::{
-    Command, KeepFault, Mark, MemKeeper, Replies, Reply, Seal, Stop, Verdict, obey, obey_all,
-};
+use ledger_core::{Command, Mark, Reply, Seal, Verdict};
 use report_text::{ReportFault, read_report};
 use std::alloc::Global;
 
@@ -12,7 +10,7 @@ const NINE: &[u8] =
      3 inexact 0 dropped 0 name nine.wkt\nchanges 1\nchange 0/0/0/0 0/1/0/0 touching apart\nend\n";
 
 /// What a reply says, in a word.
-fn word_of(reply: &Reply) -> &'static str {
+pub(crate) fn word_of(reply: &Reply) -> &'static str {
     match reply {
         Reply::Entered { run: 1, pairs: 1 } => "entered 1 pairs 1",
         Reply::Known { run: 1 } => "known 1",
@@ -88,47 +86,4 @@ pub(crate) fn first_other(replies: &[Reply], words: &[&str]) -> Option<usize> {
         }
     }
     None
-}
-
-#[test]
-fn a_campaign_of_one_run(rt: HostRuntime) {
-    let alloc = rt.alloc();
-    let Ok(commands) = commands(alloc) else {
-        panic!(rt; "no commands");
-    };
-    let mut keeper = MemKeeper::new(alloc);
-    let mut replies = Replies::of(Vec::new(alloc));
-    assert!(rt; commands.len() < ledger_core::MOST_COMMANDS);
-    let done = obey_all(alloc, &mut keeper, commands.as_slice(), &mut replies);
-    assert_eq!(rt; done, Ok(()));
-    assert_eq!(rt; replies.items().len(), 12);
-    assert_eq!(rt; first_other(replies.items(), &WORDS), None);
-    assert_eq!(rt; keeper.faults(), 0);
-}
-
-#[test]
-fn a_keeper_that_fails(rt: HostRuntime) {
-    let alloc = rt.alloc();
-    let Ok(commands) = commands(alloc) else {
-        panic!(rt; "no commands");
-    };
-    let mut keeper = MemKeeper::new(alloc);
-    assert_eq!(rt; keeper.fail_at(0), Ok(()));
-    assert_eq!(rt; keeper.fail_at(7), Ok(()));
-    let mut replies = Replies::of(Vec::new(alloc));
-    assert!(rt; commands.len() < ledger_core::MOST_COMMANDS);
-    let fault = KeepFault::Failed;
-    let first = obey_all(alloc, &mut keeper, commands.as_slice(), &mut replies);
-    assert_eq!(rt; first, Err(Stop { at: 0, fault }));
-    assert_eq!(rt; replies.items().len(), 0);
-
-    // Calls 1 to 3 enter the run, 4 finds it, 5 counts, 6 lists its pair, and 7 fails.
-    let second = obey_all(alloc, &mut keeper, commands.as_slice(), &mut replies);
-    assert_eq!(rt; second, Err(Stop { at: 2, fault }));
-    assert_eq!(rt; replies.items().len(), 2);
-    assert_eq!(rt; keeper.faults(), 2);
-    let Ok(reply) = obey(alloc, &mut keeper, &Command::Clear { run: 1 }) else {
-        panic!(rt; "no reply");
-    };
-    assert_eq!(rt; word_of(&reply), "waiting 0");
 }

@@ -1,6 +1,6 @@
 //! Each call of a keeper fails once, and leaves what is kept.
 
-use crate::ledger_core_tests::{decide, enter, first_other};
+use crate::campaign::{decide, enter, first_other};
 use ledger_core::{
     Command, KeepFault, Keeper, MOST_COMMANDS, Mark, MemKeeper, Replies, Stop, obey_all,
 };
