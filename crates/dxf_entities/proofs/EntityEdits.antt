@@ -119,8 +119,7 @@ skipped bytes pair fields from past vertices follow rest =
           → past_group bytes begin (pair ∷ fields) ≡ Ok upto → begin ≤ from
           → EndsGroup bytes begin (pair ∷ fields) past vertices upto
       by_test {begin} {upto} true grouped is below =
-          let goes : past_group bytes pair.end fields ≡ Ok upto =
-          no_fault _ _ upto (rw grouped at is) in
+          let goes : past_group bytes pair.end fields ≡ Ok upto = no_fault _ _ upto (rw grouped at is) in
           let here = rest.group pair.end upto goes (omega arith) in grind (arith, not_90)
       by_test {begin} {upto} false out is below = grind (arith, by_past, wider, lies)
 
@@ -216,8 +215,7 @@ ordered bytes exact (x ∷ y ∷ pairs) from past vertices follow is =
 
 -- ---- the heights of a line's two ends: which fields they are read of, and that they are within reach
 coordinate_within : (bytes : List ℕ) (exact : Bool) (pair : Pair) (read : Read)
-    → coordinate_of bytes exact pair ≡ Ok read
-    → unsigned_abs read.mm ≤ LIMIT
+    → coordinate_of bytes exact pair ≡ Ok read → unsigned_abs read.mm ≤ LIMIT
 coordinate_within bytes exact pair read is = grind (arith, unsigned_abs, read_within)
 
 -- both heights are there, and are read
@@ -474,8 +472,7 @@ light_good low high bytes exact entity laid clear shapes is =
     let edits : (path first : ℕ) → StandApart entity.head.start
     (vertex_edits first vertices.value ++ value_edit (Tally first (first + length vertices.value)) count.value ∷ [])
     past = λ path first.
-    let own = order.apart first in
-    wider from past entity.head.start past _ (record {
+    let own = order.apart first in wider from past entity.head.start past _ (record {
       within = within_last from past (vertex_edits first vertices.value)
           (value_edit (Tally first (first + length vertices.value)) count.value) own.within
           (omega (arith, at.begins, at.code)) at.value (omega (arith, at.inside, at.ends));
@@ -489,8 +486,7 @@ light_good low high bytes exact entity laid clear shapes is =
             inside = at.inside;
             place = inr tally.is_in;
           }) first) own.apart;
-    }) laid.forth (omega arith) in
-    subst (λ ss. AreGood low high entity.head.start ss past) made
+    }) laid.forth (omega arith) in subst (λ ss. AreGood low high entity.head.start ss past) made
     (one_good low high entity.head.start past (light_shape kind.value vertices.value count.value) laid.order
     (vertices_whole kind.value vertices.value (long_kind bytes entity kind.value kind.is)) tt edits
     (λ path first. within_clear low high entity.head.start past

@@ -115,8 +115,7 @@ read_pair exact pair (Err fault) read is = absurd (cc)
 read_pair exact pair (Ok number) read is = grind arith
 
 pub coordinate_is : (bytes : List ℕ) (exact : Bool) (pair : Pair) (read : Read)
-    → coordinate_of bytes exact pair ≡ Ok read
-    → read.pair ≡ pair
+    → coordinate_of bytes exact pair ≡ Ok read → read.pair ≡ pair
 coordinate_is bytes exact pair read is = read_pair exact pair _ read is
 
 coordinate_field : (bytes : List ℕ) (exact : Bool) (code : ℤ) (entity : Entity) (read : Read)

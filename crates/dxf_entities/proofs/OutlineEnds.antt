@@ -78,8 +78,7 @@ mapped_on f g from other (suc count) same =
     (subst (λ n. f n ≡ g (other + 0)) none (same 0 (omega arith))) in
     let rest = mapped_on f g (from + 1) (other + 1) count (λ k less.
     let on : from + suc k ≡ from + 1 + k = omega arith in
-    let other_on : other + suc k ≡ other + 1 + k = omega arith in
-    subst (λ n. f (from + 1 + k) ≡ g n) other_on
+    let other_on : other + suc k ≡ other + 1 + k = omega arith in subst (λ n. f (from + 1 + k) ≡ g n) other_on
     (subst (λ n. f n ≡ g (other + suc k)) on (same (suc k) (omega arith)))) in cc
 
 few_segments : (kind : PathKind) (count k : ℕ) → 0 < count → k < segments_of kind count → k < count
@@ -164,8 +163,7 @@ module _ {X : Type 0} (none : X) where
 
   after : (items own : List X) (first past k : ℕ) → k < past - first → length own ≡ past - first
       → own ≡ part items first past → (more other : Bool) → nat_lt (first + k + 1) past ≡ more
-      → nat_lt (0 + k + 1) (length own) ≡ other
-      → slice_index_or items (cond more (first + k + 1) first) none
+      → nat_lt (0 + k + 1) (length own) ≡ other → slice_index_or items (cond more (first + k + 1) first) none
       ≡ slice_index_or own (cond other (0 + k + 1) 0) none
   after items own first past k within size own_is true true is too = grind (arith, at)
   after items own first past k within size own_is true false is too = absurd (grind (arith, nat_tests, is, too, size))
@@ -192,8 +190,7 @@ module _ {X : Type 0} (none : X) where
       (segments_of kind (length own - 0))
       (λ k less.
       let within : k < past - first = few_segments kind (past - first) k (omega arith)
-      (subst (λ n. k < segments_of kind n) count less) in
-      same_at items path own k within size refl)
+      (subst (λ n. k < segments_of kind n) count less) in same_at items path own k within size refl)
 
   row_ends : (items : List X) (kind : Option PathKind) (first past : ℕ) → first ≤ past → past ≤ length items
       → HasPoints kind (past - first)

@@ -100,8 +100,7 @@ seed_inside bytes (pair ∷ pairs) = rw (take_while-cons (is_inside bytes) pair 
       by_tests false five ends_is five_is = rw ends_is refl
 
 outside_more : (bytes : List ℕ) (pair : Pair) (pairs : List Pair) → IsFoundSo bytes pairs → (begins : Bool)
-    → has_both bytes (pos 0) (codes "SECTION") pair ≡ begins
-    → seed_from bytes (cond begins Begun Outside) pairs
+    → has_both bytes (pos 0) (codes "SECTION") pair ≡ begins → seed_from bytes (cond begins Begun Outside) pairs
     ≡ seed_in_sections bytes (sections_from bytes false (pair ∷ pairs))
 outside_more bytes pair pairs rest true is = rw (begun_more bytes pair pairs is) rest.begun
 outside_more bytes pair pairs rest false is = rw (false_more bytes pair pairs is) rest.outside
@@ -153,8 +152,7 @@ header_step bytes pair pairs rest = rw (true_more bytes pair pairs, take_while-c
             rw is refl in absurd (cc)
 
       by_tests : (names ends : Bool) → has_both bytes (pos 9) (codes "$HANDSEED") pair ≡ names
-          → is_end_of_section bytes pair ≡ ends
-          → seed_from bytes Header (pair ∷ pairs)
+          → is_end_of_section bytes pair ≡ ends → seed_from bytes Header (pair ∷ pairs)
           ≡ named_or bytes (behind_name bytes (cond (is_inside bytes pair) (pair ∷ take_while (is_inside bytes) pairs)
           [])) (seed_in_sections bytes (sections_from bytes (is_inside bytes pair) pairs))
       by_tests true true names_is ends_is = let none : is_end_of_section bytes pair ≡ false =

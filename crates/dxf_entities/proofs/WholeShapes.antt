@@ -187,8 +187,7 @@ pub none_good : (low high from past : ℕ) → from ≤ past → AreGood low hig
 none_good low high from past order = grind (arith, no_edits)
 
 pub all_good : (low high from past : ℕ) (shapes : List Shape) → from ≤ past → IsClear low high from past
-    → AreWhole shapes → AreRisesWithin shapes
-    → ((path first : ℕ) → StandApart from (edits_with path first shapes) past)
+    → AreWhole shapes → AreRisesWithin shapes → ((path first : ℕ) → StandApart from (edits_with path first shapes) past)
     → AreGood low high from shapes past
 all_good low high from past shapes order clear whole rises apart = grind (arith, within_clear)
 

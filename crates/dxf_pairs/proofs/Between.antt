@@ -98,8 +98,7 @@ the_number text h = (by_test text true (sym (digits_are (without_leading_sign te
 
 -- what is read as a number of this magnitude is a group code
 pub read_code : (text : List ℕ) (code : ℤ) → IsNumeral 10 (without_leading_sign text)
-    → code ≡ signed_digits_value 10 text → unsigned_abs code ≤ MOST_CODE
-    → Some code ≡ number_of text
+    → code ≡ signed_digits_value 10 text → unsigned_abs code ≤ MOST_CODE → Some code ≡ number_of text
 read_code text code numeral is small = grind (arith, magnitude, the_number)
 
 -- ---- what is between blanks, and the lines of group codes
@@ -128,8 +127,7 @@ back_is front behind blanks last =
     (λ k from below. let more : k ≡ length front + (k - length front) = omega arith in
     subst (λ (n : ℕ). is_blank_byte (get_or (front ++ behind) n 0) ≡ true) (sym more)
     (rw (get_or-append-add front behind (k - length front) 0) (blanks (k - length front) 0 (omega arith))))
-    (λ some. rw (get_or_append_left front behind 0 (length front - 1) (omega arith)) (last some))
-    ∙ count
+    (λ some. rw (get_or_append_left front behind 0 (length front - 1) (omega arith)) (last some)) ∙ count
 
 -- where all is blank, the value is empty
 all_blank : (line : List ℕ) → AllPass is_blank_byte line → value_of line ≡ []
@@ -307,5 +305,4 @@ whole_numbers line code = (to_parts, of_parts)
             first = λ _. signed_first sign digits code are is.signed;
             last = λ _. signed_last sign digits are;
           },
-        ) in
-        ap number_of value ∙ signed_text sign digits code are is.signed
+        ) in ap number_of value ∙ signed_text sign digits code are is.signed

@@ -130,8 +130,7 @@ stands bytes start line first second rest code inside is one two has goes_on val
     ++ LINE_FEED ∷ before = ap (λ (n : ℕ). between start n bytes) (sym value_at) ∙ placed_in.to_value in
     let from_value : between (past_of (length bytes) start first + prefix_len is_blank_byte second
     + length (value_of second)) (past_of (length bytes) (past_of (length bytes) start first) second) bytes ≡ behind
-    ++ LINE_FEED ∷ [] =
-    ap (λ (n : ℕ). between (n + length (value_of second))
+    ++ LINE_FEED ∷ [] = ap (λ (n : ℕ). between (n + length (value_of second))
     (past_of (length bytes) (past_of (length bytes) start first) second) bytes) (sym value_at)
     ∙ (ap (λ (n : ℕ). between (start + length first + 1 + length before + length (value_of second)) n bytes)
     (sym end_at) ∙ placed_in.from_value) in
@@ -157,8 +156,7 @@ in_lines_from bytes start line (first ∷ second ∷ texts) pairs are stand is =
     (line_of (length bytes) (past_of (length bytes) start first) (line + 1) second) (code_of first)
     (reading_behind bytes start line first second texts) pairs is in
     let value : value_in bytes (pair_here bytes start line first second code) ≡ value_of second =
-    value_stands bytes start line first second code stand.2.1 in
-    ends code more read value
+    value_stands bytes start line first second code stand.2.1 in ends code more read value
     (λ others lines rest. in_lines_from bytes (past_of (length bytes) (past_of (length bytes) start first) second)
     (line + 1 + 1) texts others lines stand.2.2 rest)
   where
@@ -178,8 +176,7 @@ in_lines_from bytes start line (first ∷ second ∷ texts) pairs are stand is =
       by_rest (inr others) = by_texts texts are stand.2.2 others.1 behind_it where
         by_texts : (left : List (List ℕ)) → lines_of (drop start bytes) ≡ first ∷ second ∷ left
             → Stand bytes (past_of (length bytes) (past_of (length bytes) start first) second) left
-            → reading_behind bytes start line first second left ≡ Ok more
-            → ((others : List Pair) → lines_of (drop
+            → reading_behind bytes start line first second left ≡ Ok more → ((others : List Pair) → lines_of (drop
             (past_of (length bytes) (past_of (length bytes) start first) second) bytes) ≡ left
             → reading_behind bytes start line first second left ≡ Ok others → AreInLines bytes others)
             → AreInLines bytes pairs

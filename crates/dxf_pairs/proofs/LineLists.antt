@@ -33,8 +33,7 @@ one_line : (text : List ℕ) → 0 < length text → Nowhere (Passes (is_byte LI
     → lines_of text ≡ text ∷ []
 one_line text some nowhere =
     let parts : slice_split (λ byte. byte == LINE_FEED) text ≡ text ∷ [] =
-    part_alone LINE_FEED text (λ k within. nowhere k (omega arith) within) in
-    rw parts (alone text some)
+    part_alone LINE_FEED text (λ k within. nowhere k (omega arith) within) in rw parts (alone text some)
   where
     alone : (line : List ℕ) → 0 < length line → without_empty_last (line ∷ []) ≡ line ∷ []
     alone [] some = absurd (omega arith)
@@ -42,8 +41,7 @@ one_line text some nowhere =
 
 -- the first line ends before the first line feed
 line_before : (text : List ℕ) (end : ℕ) → NoneBefore (Passes (is_byte LINE_FEED) text) 0 (length text) end
-    → Passes (is_byte LINE_FEED) text end
-    → lines_of text ≡ take end text ∷ lines_of (drop (end + 1) text)
+    → Passes (is_byte LINE_FEED) text end → lines_of text ≡ take end text ∷ lines_of (drop (end + 1) text)
 line_before text end first here =
     let split : slice_split (λ byte. byte == LINE_FEED) text ≡ take end text
     ∷ slice_split (λ byte. byte == LINE_FEED) (drop (end + 1) text) =
@@ -61,8 +59,7 @@ placed_first bytes start end past number text texts are text_is past_is = grind 
 -- the first of the lines from a place on, where it ends at a line feed and where it ends with the bytes
 pub first_ended : (bytes : List ℕ) (start count number : ℕ) → start < length bytes
     → NoneBefore (Passes (is_byte LINE_FEED) (drop start bytes)) 0 (length (drop start bytes)) count
-    → Passes (is_byte LINE_FEED) (drop start bytes) count
-    → lines_from bytes start number
+    → Passes (is_byte LINE_FEED) (drop start bytes) count → lines_from bytes start number
     ≡ (record { text = between start (start + count) bytes; number = number; start = start; end = start + count + 1 })
     ∷ lines_from bytes (start + count + 1) (number + 1)
 first_ended bytes start count number within first here =

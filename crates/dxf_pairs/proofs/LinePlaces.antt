@@ -200,8 +200,7 @@ tiles_from bytes start line (first ∷ second ∷ texts) pairs stand is =
     )
     joined code more has are (inr others) behind_it =
         let (past, inside, tail) = behind_it more others.1 in
-        let two_on : line + 1 + 1 ≡ line + 2 = omega arith in
-        rw are (
+        let two_on : line + 1 + 1 ≡ line + 2 = omega arith in rw are (
           past,
           inside,
           tile_first bytes start line first second code has stand.0 stand.2.0 more past (rw two_on at tail),
@@ -256,5 +255,4 @@ tile_at size start line past (pair ∷ pairs) inside (start_is, line_is, code, v
 
 pub within : PairsAreWithin
 within bytes pairs is =
-    let (past, inside, are) = tiles bytes pairs is in
-    (tile_at (length bytes) 0 1 past pairs inside are).1
+    let (past, inside, are) = tiles bytes pairs is in (tile_at (length bytes) 0 1 past pairs inside are).1

@@ -21,15 +21,13 @@ two_read all lines rest first second code all_is lines_is has = grind arith
 
 -- the pair of two lines of the bytes, by their places
 pub pair_read : (bytes : List ℕ) (start line value value_end : ℕ) (first second : LineEnds) (code : ℤ)
-    → first.start ≡ start
-    → value ≡ second.start + prefix_len is_blank_byte (between second.start second.end bytes)
+    → first.start ≡ start → value ≡ second.start + prefix_len is_blank_byte (between second.start second.end bytes)
     → value_end ≡ value + length (value_of (between second.start second.end bytes))
     → between value value_end bytes ≡ value_of (between second.start second.end bytes)
     → lines_from bytes start line ≡ line_at bytes first line ∷ lines_from bytes first.past (line + 1)
     → lines_from bytes first.past (line + 1) ≡ line_at bytes second (line + 1)
     ∷ lines_from bytes second.past (line + 1 + 1)
-    → code_of (between first.start first.end bytes) ≡ Some code
-    → reading (lines_from bytes start line)
+    → code_of (between first.start first.end bytes) ≡ Some code → reading (lines_from bytes start line)
     ≡ first_pair (record {
       code = code;
       start = start;

@@ -42,8 +42,7 @@ few_digits digits all few = grind (arith, digits_value-lt, pow-le-pow_right)
 
 -- the number of this many digits at the front
 pub front_small : (text : List ℕ) (count number : ℕ) → count ≤ length text → count ≤ 4 → AllDigits 10 (take count text)
-    → number ≡ digits_value 10 (take count text)
-    → number ≤ MOST_CODE
+    → number ≡ digits_value 10 (take count text) → number ≤ MOST_CODE
 front_small text count number within few all is = grind (arith, length-take-le, few_digits)
 
 -- a text that begins with blanks, digits, and blanks up to a line feed

@@ -1,5 +1,6 @@
 -- Answers to the goals of `render_page` in src/rendering.rt.
 use Rattle.std.proofs.Common.{◌≡◌, ◌∙◌, ◌++◌, arith, ap, sym, length, slice_index_or}
+use Rattle.std.proofs.lemmas.Grind.{common_steps}
 use Rattle.sheet_base.specs.declared.edits.Edit.{Edit}
 use Rattle.sheet_base.specs.Splices.{AreInOrder}
 use Rattle.sheet_base.proofs.SpliceLaws.{no_edit, one_more}
@@ -61,3 +62,6 @@ loop-edit-preserved c =
           (c.in_ok-push_text.ensures ∙ ap (λ next. c.extend_from_slice.new.self.items
           ++ text_as read next edit edit.what) (sym here));
     }
+
+pub returns : goal.returns
+returns c = grind (arith, common_steps)

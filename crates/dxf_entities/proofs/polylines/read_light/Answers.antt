@@ -77,8 +77,7 @@ pub returns-clause-grown : goal.returns-clause-grown
 returns-clause-grown c =
     let short : length c.fields_of.result.now ≤ length c.args.entity.now.pairs.now =
     rw c.fields_of.ensures (taken_short (λ (pair : Pair). int_lt pair.code (pos 1000))
-    c.args.entity.now.pairs.now) in
-    λ count room.
+    c.args.entity.now.pairs.now) in λ count room.
     let there = c.in_ok-read_vertices.ensures.grown count room in
     let edited : HoldsAtMost (count + length c.fields_of.result.now) (contents_of c.add_edit.new.self) =
     rw c.in_ok-add_edit.ensures (edited_holds (count + length c.fields_of.result.now)

@@ -1,5 +1,6 @@
 -- Answers to the goals of `read_vertices` in src/polylines.rt.
 use Rattle.std.proofs.Common.{arith, ◌+◌, ◌-◌, ◌^◌, length, take, drop}
+use Rattle.std.proofs.lemmas.Grind.{common_steps}
 use Rattle.dxf_entities.specs.DrawingContents.{contents_of}
 use Rattle.dxf_entities.proofs.ReadSizes.{holds_more}
 use Rattle.dxf_entities.proofs.Vertices.{nothing_read, one_read, none_read, at_some}
@@ -31,3 +32,9 @@ pub returns-clause-grown : goal.returns-clause-grown
 returns-clause-grown c =
     λ count room. holds_more (count + c.loop-at.at) (count + length c.args.fields.now) (contents_of c.loop-at.drawing)
     (c.loop-at.invariant.grown count room) (omega (arith, c.loop-at.invariant.inside))
+
+pub returns-in_err-vertex-clause-reads : goal.returns-in_err-vertex-clause-reads
+returns-in_err-vertex-clause-reads c = grind (arith, common_steps)
+
+pub returns-clause-reads : goal.returns-clause-reads
+returns-clause-reads c = grind (arith, common_steps)

@@ -12,8 +12,7 @@ returns-in_default c = no_number c.args.text.now
 
 pub returns-in_default-parse : goal.returns-in_default-parse
 returns-in_default-parse c =
-    let same = c.in-Ok.ensures.cases.0 in
-    no_number c.args.text.now (λ digits. c.in_default-parse.ensures.value.0
+    let same = c.in-Ok.ensures.cases.0 in no_number c.args.text.now (λ digits. c.in_default-parse.ensures.value.0
     (rw same (digits.numeral, code_fits c.args.text.now digits)))
 
 pub returns : goal.returns

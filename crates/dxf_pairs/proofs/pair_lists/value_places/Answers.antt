@@ -9,5 +9,4 @@ returns-clause-value c =
     let inside : c.value_in_line-before.result.0 + c.value_in_line-before.result.1
     ≤ c.args.line.end - c.args.line.start = omega (arith, size, c.value_in_line-before.ensures.within) in
     part_between c.args.bytes.now c.args.line.start c.args.line.end c.value_in_line-before.result.0
-    c.value_in_line-before.result.1 c.requires.order inside
-    ∙ c.value_in_line-before.ensures.value
+    c.value_in_line-before.result.1 c.requires.order inside ∙ c.value_in_line-before.ensures.value

@@ -11,8 +11,7 @@ pub overflow_mul-number : goal.overflow_mul-number
 overflow_mul-number c =
     let so_far = c.loop-count.invariant in
     let small = front_small c.args.text.now c.loop-count.count c.loop-count.number so_far.within so_far.few
-    so_far.digits so_far.number in
-    omega (arith, small)
+    so_far.digits so_far.number in omega (arith, small)
 
 pub overflow_add-number : goal.overflow_add-number
 overflow_add-number c =

@@ -9,8 +9,7 @@ pub overflow_cast-result : goal.overflow_cast-result
 overflow_cast-result c =
     let front = c.front_of-front.ensures in
     let small = front_small _ c.front_of-front.result.count c.front_of-front.result.number front.within front.few
-    front.digits front.number in
-    omega (arith, ints, small)
+    front.digits front.number in omega (arith, ints, small)
 
 pub returns : goal.returns
 returns c =
@@ -25,8 +24,7 @@ returns c =
     let behind_bound = rw (take_rest text (before + digits)) at c.blanks_before.ensures.bound in
     let left = length-drop (before + digits) text in
     let near = length-drop before text in
-    let within : before + digits + c.blanks_before.result < length text =
-    omega (
+    let within : before + digits + c.blanks_before.result < length text = omega (
       arith,
       c.if-end-text.false,
       behind_bound,
