@@ -8,3 +8,4 @@ pub mod Groups
 pub mod Laws
 pub mod CodeLines
 pub mod InLines
+pub mod InsidePlainCodes

@@ -1,8 +1,7 @@
 -- What is on a line, without the blanks at its ends.
 use Rattle.text_places.specs.Blanks.{is_blank_byte}
-use Rattle.std.specs.Prelude.{ℕ, ◌-◌, ◌==◌, Bool, ◌||◌, List, length, take, drop}
+use Rattle.std.specs.Prelude.{ℕ, ◌-◌, List, length, take, drop}
 use Rattle.std.specs.List.{prefix_len, suffix_len}
-use Rattle.std.specs.Str.{byte}
 
 -- the text without the blanks in front
 abbrev pub without_blanks_before : List ℕ → List ℕ

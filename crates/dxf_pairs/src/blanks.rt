@@ -8,6 +8,7 @@ ghost use Rattle.dxf_pairs.specs.Values.{value_of};
 use text_places::is_blank;
 
 /// How many blanks come before the other bytes.
+#[inline(always)]
 pub fn blanks_before(text: &[u8]) -> usize
     ensures count { result ≡ prefix_len is_blank_byte text.now }
     ensures bound { result ≤ length text.now }
@@ -20,6 +21,7 @@ pub fn blanks_before(text: &[u8]) -> usize
 }
 
 /// How many bytes come before the blanks at the end.
+#[inline(always)]
 pub fn length_before_blanks(text: &[u8]) -> usize
     ensures count { result + suffix_len is_blank_byte text.now ≡ length text.now }
     ensures bound { result ≤ length text.now }
@@ -32,6 +34,7 @@ pub fn length_before_blanks(text: &[u8]) -> usize
 }
 
 /// How many blanks come before the value on a line, and how many bytes the value has.
+#[inline(always)]
 pub fn value_in_line(line: &[u8]) -> (usize, usize)
     ensures value { take result.1 (drop result.0 line.now) ≡ value_of line.now }
     ensures before { result.0 ≡ prefix_len is_blank_byte line.now }

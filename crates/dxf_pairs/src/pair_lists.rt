@@ -15,7 +15,7 @@ use crate::codes::code_in;
 use crate::faults::PairFault;
 use crate::line_ends::{LineEnds, line_from};
 use crate::pairs::Pair;
-use crate::plain_codes::plain_code;
+use crate::plain_codes::{padded_code, plain_code};
 use std::alloc::Global;
 
 /// What the binary form of a drawing begins with.
@@ -28,6 +28,7 @@ pub const LAST_VALUE: &[u8] = b"EOF";
 const USUAL_PAIR: usize = 12;
 
 /// Where the value of a line starts, and the place past it.
+#[inline(always)]
 fn value_places(bytes: &[u8], line: LineEnds) -> (usize, usize)
     requires order { line.start ≤ line.end }
     requires within { line.end ≤ length bytes.now }
@@ -41,8 +42,9 @@ fn value_places(bytes: &[u8], line: LineEnds) -> (usize, usize)
     (start, start + length)
 }
 
-/// The line that starts at a place before the end of the bytes, and its group code, where it has one.
-fn code_line(bytes: &[u8], start: usize) -> (LineEnds, Option<i32>)
+/// The line that starts at a place before the end of the bytes, and its group code, where it has one: any line.
+#[inline(never)]
+fn any_code_line(bytes: &[u8], start: usize) -> (LineEnds, Option<i32>)
     requires { start < length bytes.now }
     ensures first { (number : ℕ) → lines_from bytes.now start number
         ≡ line_at bytes.now result.0 number ∷ lines_from bytes.now result.0.past (number + 1) }
@@ -57,11 +59,32 @@ fn code_line(bytes: &[u8], start: usize) -> (LineEnds, Option<i32>)
         return (LineEnds { start, end, past }, Some(plain.code));
     }
     let line = line_from(bytes, start);
-    let (from, to) = value_places(bytes, line);
-    (line, code_in(&bytes[from..to]))
+    let text = &bytes[start..line.end];
+    let (before, length) = value_in_line(text);
+    (line, code_in(&text[before..before + length]))
+}
+
+/// The line that starts at a place before the end of the bytes, and its group code, where it has one.
+#[inline(always)]
+fn code_line(bytes: &[u8], start: usize) -> (LineEnds, Option<i32>)
+    requires { start < length bytes.now }
+    ensures first { (number : ℕ) → lines_from bytes.now start number
+        ≡ line_at bytes.now result.0 number ∷ lines_from bytes.now result.0.past (number + 1) }
+    ensures start { result.0.start ≡ start }
+    ensures forward { start < result.0.past }
+    ensures within { result.0.past ≤ length bytes.now }
+    ensures code { result.1 ≡ code_of (between start result.0.end bytes.now) }
+{
+    if let Some(plain) = padded_code(&bytes[start..]) {
+        let end = start + plain.end;
+        let past = end + 1;
+        return (LineEnds { start, end, past }, Some(plain.code));
+    }
+    any_code_line(bytes, start)
 }
 
 /// The pair whose code's line starts at the place and has the number.
+#[inline(always)]
 fn read_pair(bytes: &[u8], start: usize, line: u64) -> Result<Pair, PairFault>
     requires within { start < length bytes.now }
     requires few { length bytes.now < 2 ^ 32 }

@@ -1,10 +1,11 @@
-//! Lines of group codes as most writers lay them out, one to four digits between blanks. They are
-//! read in front of the search for the line's end.
+//! Lines of group codes as most writers lay them out, one to three digits in three places, or one to
+//! four digits between blanks. They are read in front of the search for the line's end.
 
-ghost use Rattle.std.specs.Prelude.{◌≡◌, ◌<◌, ◌≤◌, ◌+◌, ◌∷◌, length, take, drop, IfSome, Some};
+ghost use Rattle.std.specs.Prelude.{◌≡◌, ◌<◌, ◌≤◌, ◌+◌, ◌∷◌, ◌-◌, length, take, drop, IfSome, IsTrue, Some};
 ghost use Rattle.std.specs.Str.Parse.{AllDigits, digits_value};
 ghost use Rattle.dxf_pairs.specs.Lines.{lines_of};
 ghost use Rattle.dxf_pairs.specs.Codes.{code_of};
+ghost use Rattle.dxf_pairs.specs.InsidePlainCodes.{AreInThree};
 
 use crate::blanks::blanks_before;
 use crate::line_ends::LINE_FEED;
@@ -45,7 +46,6 @@ fn front_of(text: &[u8]) -> FirstDigits
 
 /// The group code of the first line, where the line is one to four digits between blanks and ends at
 /// a line feed.
-#[inline(always)]
 pub fn plain_code(text: &[u8]) -> Option<PlainCode>
     ensures within { IfSome result (λ plain. plain.end < length text.now) }
     ensures line { IfSome result (λ plain. lines_of text.now ≡ take plain.end text.now ∷ lines_of (drop (plain.end + 1) text.now)) }
@@ -61,5 +61,49 @@ pub fn plain_code(text: &[u8]) -> Option<PlainCode>
     Some(PlainCode {
         code: front.number as i32,
         end,
+    })
+}
+
+/// Whether three bytes are one to three digits behind spaces.
+#[inline(always)]
+fn are_in_three(a: u8, b: u8, c: u8) -> bool
+    ensures { IsTrue result → AreInThree a b c }
+{
+    if !c.is_ascii_digit() {
+        return false;
+    }
+    if b.is_ascii_digit() {
+        return a == b' ' || a.is_ascii_digit();
+    }
+    a == b' ' && b == b' '
+}
+
+/// What a digit is worth, and a space 0.
+#[inline(always)]
+fn worth(byte: u8) -> u32
+    ensures value { result ≡ byte - 48 }
+    ensures few { result < 256 }
+{
+    u32::from(byte.saturating_sub(b'0'))
+}
+
+/// The group code of the first line, where the line is one to three digits behind spaces in three
+/// places, and ends at a carriage return and a line feed.
+#[inline(always)]
+pub fn padded_code(text: &[u8]) -> Option<PlainCode>
+    ensures within { IfSome result (λ plain. plain.end < length text.now) }
+    ensures line { IfSome result (λ plain. lines_of text.now ≡ take plain.end text.now ∷ lines_of (drop (plain.end + 1) text.now)) }
+    ensures code { IfSome result (λ plain. code_of (take plain.end text.now) ≡ Some plain.code) }
+{
+    if text.len() < 5 || text[3] != b'\r' || text[4] != LINE_FEED {
+        return None;
+    }
+    if !are_in_three(text[0], text[1], text[2]) {
+        return None;
+    }
+    let number = 100 * worth(text[0]) + 10 * worth(text[1]) + worth(text[2]);
+    Some(PlainCode {
+        code: number as i32,
+        end: 4,
     })
 }

@@ -24,6 +24,12 @@ IsLeftOfAll c n d =
     IsParam n d × (pos 0 ≤ℤ value_at c.ab.start c.ab.end n d) × (pos 0 ≤ℤ value_at c.bc.start c.bc.end n d)
     × (pos 0 ≤ℤ value_at c.ca.start c.ca.end n d)
 
+-- none of the three is below 0 at an end of the way
+abbrev pub AreLeftAtEnds : Courses → Type 0
+AreLeftAtEnds c =
+    ((pos 0 ≤ℤ c.ab.start) × (pos 0 ≤ℤ c.ab.end)) × ((pos 0 ≤ℤ c.bc.start) × (pos 0 ≤ℤ c.bc.end))
+    × ((pos 0 ≤ℤ c.ca.start) × (pos 0 ≤ℤ c.ca.end))
+
 -- f is an end of the way, or a bound of one of the three
 abbrev pub IsBoundOfOne : Type 0 → Courses → Frac → Type 0
 IsBoundOfOne end c f = end ⊎ (IsBound end c.ab.start c.ab.end f

@@ -81,6 +81,13 @@ pub(crate) fn where_left(course: Course) -> Range
     }
 }
 
+/// Whether a number is negative at neither end.
+pub(crate) fn is_left(course: Course) -> bool
+    ensures { IsTrue result → (pos 0 ≤ℤ course.start) × (pos 0 ≤ℤ course.end) }
+{
+    course.start >= 0 && course.end >= 0
+}
+
 /// Whether a number changes and is 0 at this parameter.
 pub(crate) fn is_zero_at(course: Course, at: Frac) -> bool
     ensures { IsTrue result ↔ IsZeroAt course.start course.end at }

@@ -3,9 +3,9 @@
 ghost use Rattle.std.specs.Prelude.{◌≡◌, ◌↔◌, ℤ, pos, ◌<ℤ◌, IsTrue, IfSome};
 ghost use Rattle.plane_base.specs.Plane.{whole, turn_of, IsNear, IsNearAll, IsNearTri};
 ghost use Rattle.plane_base.specs.Slices.{IsWithin, AreEnds, IsWholeWay, slice_of};
-ghost use Rattle.plane_base.specs.InsideSides.{AreOfSides, IsLeftOfAll, IsBoundOfOne, IsZeroOfOne, IsEndBy};
+ghost use Rattle.plane_base.specs.InsideSides.{AreOfSides, IsLeftOfAll, AreLeftAtEnds, IsBoundOfOne, IsZeroOfOne, IsEndBy};
 
-use crate::courses::{Course, course_of, is_zero_at, where_left};
+use crate::courses::{Course, course_of, is_left, is_zero_at, where_left};
 use crate::ranges::{Range, both, whole_way};
 use crate::{Pt, Tri};
 use frac128::{Frac, is_below};
@@ -53,12 +53,22 @@ fn courses_of(a: Pt, b: Pt, t: &Tri) -> Courses
     }
 }
 
+// Whether none of the three is negative at an end of the segment; then none is between them.
+fn are_left(courses: Courses) -> bool
+    ensures { IsTrue result → AreLeftAtEnds courses }
+{
+    is_left(courses.ab) && is_left(courses.bc) && is_left(courses.ca)
+}
+
 // The parameters at which none of the three is negative.
 fn common_of(courses: Courses) -> Range
     ensures within { (n d : ℤ) → pos 0 <ℤ d → (IsWithin result.lo result.hi n d ↔ IsLeftOfAll courses n d) }
     ensures lo { IsBoundOfOne (result.lo.num ≡ pos 0) courses result.lo }
     ensures hi { IsBoundOfOne (result.hi.num ≡ result.hi.den) courses result.hi }
 {
+    if are_left(courses) {
+        return whole_way();
+    }
     let left_of_all = both(
         where_left(courses.ab),
         both(where_left(courses.bc), where_left(courses.ca)),

@@ -71,6 +71,11 @@ left_always u v s e n d h k es ee p = (
       ⊗ v because gap 1 ⊠ gap 2 ⊞ eqn 0 n) tt u v n d h k p.0,
 )
 
+-- where it is not negative at either end, it is not negative between them
+pub left_between : (u v n d : ℤ) → pos 0 ≤ℤ u → pos 0 ≤ℤ v → IsParam n d → pos 0 ≤ℤ value_at u v n d
+left_between u v n d h k p = follows 4 (λ u v n d. num (pos 0) ≼ u ⇒ num (pos 0) ≼ v ⇒ num (pos 0) ≼ n ⇒ n
+    ≼ d ⇒ num (pos 0) ≼ (d ⊖ n) ⊗ u ⊕ n ⊗ v because gap 3 ⊠ gap 0 ⊞ gap 2 ⊠ gap 1) tt u v n d h k p.1 p.2
+
 -- ---- where the number is 0, and nowhere else
 pub zero_falls : (u v x y : ℤ) → x ≡ u → y ≡ u -ℤ v → (y -ℤ x) *ℤ u +ℤ x *ℤ v ≡ pos 0
 zero_falls = follows 4 (λ u v x y. x ≐ u ⇒ y ≐ u ⊖ v ⇒ (y ⊖ x) ⊗ u ⊕ x ⊗ v
