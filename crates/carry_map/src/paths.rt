@@ -33,11 +33,12 @@ pub(crate) struct ImagesSoFar {
     pub(crate) run: Vec<u32>,
 }
 
-/// A path, and the place of its first piece.
+/// A path, the place of its first piece, and a triangle that may have its first point, if one is known.
 #[derive(Clone, Copy)]
 pub(crate) struct PathAt {
     pub(crate) row: PathRow,
     pub(crate) from: Place,
+    pub(crate) guess: Option<u32>,
 }
 
 /// The least triangle that has a point, and the image of the point.
@@ -47,13 +48,24 @@ struct Found {
     image: Pt,
 }
 
+/// The least triangle that has a point, which may be the one that is guessed, or none where no triangle has it.
+fn locate(index: &TinIndex, p: Pt, guess: Option<u32>) -> Option<u32>
+    ensures some { IfSome result (λ triangle. IsLeastWith index.now p triangle) }
+    ensures none { IfNone result (IsInSome index.now Source (whole p) → ⊥) }
+{
+    match guess {
+        Some(guess) => index.locate_near(p, guess),
+        None => index.locate(p),
+    }
+}
+
 /// Where a point is found, or none where no triangle has it.
-fn find(index: &TinIndex, p: Pt) -> Option<Found>
+fn find(index: &TinIndex, p: Pt, guess: Option<u32>) -> Option<Found>
     ensures start { IfSome result (λ found. IsLeastWith index.now p found.triangle) }
     ensures image { IfSome result (λ found. IsRoundedImage index.now p found.image) }
     ensures none { IfNone result (IsInSome index.now Source (whole p) → ⊥) }
 {
-    let triangle = index.locate(p)?;
+    let triangle = locate(index, p, guess)?;
     Some(Found {
         triangle,
         image: image_of(index.tin(), triangle, p),
@@ -139,7 +151,7 @@ pub(crate) fn carry_path(
         (segments_begun (path_vertices points.now heights.now track.from.path track.row)) fault) }
     ensures grows { Grows pieces.old.items pieces.new.items }
 {
-    let Some(found) = find(index, points[track.row.first as usize]) else {
+    let Some(found) = find(index, points[track.row.first as usize], track.guess) else {
         return Err(CarryFault::Outside {
             path: track.from.path,
             segment: 0,
