@@ -22,6 +22,9 @@ use Rattle.sheet_pieces.proofs.PathVertices.{few, first_vertices, one_vertex_mor
 use Rattle.sheet_pieces.proofs.PathVertices.{first_point_is, next_begins, split_at, in_points}
 use Rattle.tin_base.proofs.SegmentSpots.Spots.{first_inside}
 use Rattle.carry_map.specs.declared.segments.PathSegment.{PathSegment}
+use Rattle.carry_map.specs.declared.segments.Start.{Start}
+use Rattle.carry_map.specs.declared.segments.Start.TheVariants.{Found, Guessed}
+use Rattle.carry_map.specs.InsideStarts.{IsLeastWith, IsStart}
 use Rattle.carry_map.specs.declared.paths.PathAt.{PathAt}
 use Rattle.carry_map.specs.declared.faults.CarryFault.{CarryFault}
 use Rattle.carry_map.specs.CarriedLists.{IsSegmentCarried, AreCarried}
@@ -83,19 +86,30 @@ pub record IsWayAt (points : List Pt) (track : PathAt) (j : ℕ) (way : PathSegm
   pub b : way.b ≡ end_of points track.row j
   pub from : way.from ≡ record { layer = track.from.layer; path = track.from.path; segment = j; piece = 0 }
 
-abbrev made : Pt → Pt → Place → ℕ → PathSegment
-made a b from guess = record { a = a; b = b; from = from; guess = guess }
+abbrev made : Pt → Pt → Place → Start → PathSegment
+made a b from start = record { a = a; b = b; from = from; start = start }
 
-abbrev way_of : List Pt → PathAt → ℕ → ℕ → PathSegment
-way_of points track j guess = made (begin_of points track.row j) (end_of points track.row j)
-    (record { layer = track.from.layer; path = track.from.path; segment = j; piece = 0 }) guess
+abbrev way_of : List Pt → PathAt → ℕ → Start → PathSegment
+way_of points track j start = made (begin_of points track.row j) (end_of points track.row j)
+    (record { layer = track.from.layer; path = track.from.path; segment = j; piece = 0 }) start
 
 way_is : (points : List Pt) (track : PathAt) (j : ℕ) (way : PathSegment) → IsWayAt points track j way
-    → way ≡ way_of points track j way.guess
+    → way ≡ way_of points track j way.start
 way_is points track j way is =
-    ap (λ (a : Pt). made a way.b way.from way.guess) is.a
-    ∙ ap (λ (b : Pt). made (begin_of points track.row j) b way.from way.guess) is.b
-    ∙ ap (λ (from : Place). made (begin_of points track.row j) (end_of points track.row j) from way.guess) is.from
+    ap (λ (a : Pt). made a way.b way.from way.start) is.a
+    ∙ ap (λ (b : Pt). made (begin_of points track.row j) b way.from way.start) is.b
+    ∙ ap (λ (from : Place). made (begin_of points track.row j) (end_of points track.row j) from way.start) is.from
+
+-- the first segment starts where the path's first point was found
+pub starts_at : (tin : Triangulation) (points : List Pt) (row : PathRow) (j t : ℕ) (p : Pt) (start : Start)
+    → IsLeastWith tin (point_at points row.first) t → p ≡ begin_of points row j
+    → ((u : ℕ) → start ≡ Found u → (j ≡ 0) × (u ≡ t)) → IsStart tin p start
+starts_at tin points row j t p (Guessed u) least is known = tt
+starts_at tin points row j t p (Found u) least is known =
+    let first = known u refl in
+    subst (λ (q : Pt). IsLeastWith tin q u)
+    (first_point_is points row.first ∙ ap (λ (k : ℕ). begin_of points row k) (sym first.0) ∙ sym is)
+    (subst (λ (n : ℕ). IsLeastWith tin (point_at points row.first) n) (sym first.1) least)
 
 pub path_next : (tin : Triangulation) (points : List Pt) (heights : List Height) (track : PathAt) (most : ℕ)
     (x x' y z : List Pt) (a a' b c : List Height) (r r' s : List ℕ) (p p' q : List Piece) (j : ℕ) (image end : Pt)
@@ -217,7 +231,7 @@ path_cause tin points heights track most x x' a a' r r' p p' j image way fault p
         (subst (λ (n : ℕ). IsCause tin track.from.layer n most
         (segment_at points heights track.from.path track.row j ∷ [])
         fault) grown
-        (cause_of_way tin track.from.layer (length p') most (way_of points track j way.guess)
+        (cause_of_way tin track.from.layer (length p') most (way_of points track j way.start)
         (height_ends_at heights track.row j) fault state.room
         (subst (λ (w : PathSegment). IsWayCause tin w (length p') most fault) (way_is points track j way is) cause))))
 

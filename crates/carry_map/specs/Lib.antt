@@ -21,5 +21,6 @@ pub mod Causes
 pub mod Layers
 pub mod Outcomes
 pub mod LayerEnds
+pub mod InsideStarts
 pub mod InsideStepHeights
 pub mod InsideWrittenSheets

@@ -3,6 +3,7 @@
 #![tactic(auto)]
 
 mod faults;
+mod guesses;
 mod laws;
 mod layers;
 mod limits;

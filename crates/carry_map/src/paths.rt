@@ -1,6 +1,6 @@
 //! One call carries a path: it appends the images of its points and crossings, and the pieces of its segments.
 
-ghost use Rattle.std.specs.Prelude.{◌≡◌, ◌+◌, ◌*◌, ◌<◌, ◌≤◌, ◌^◌, [], ◌∷◌, ◌++◌, length, vec_len, IfSome, IfNone, All};
+ghost use Rattle.std.specs.Prelude.{◌≡◌, ℕ, ◌+◌, ◌*◌, ◌<◌, ◌≤◌, ◌^◌, [], ◌∷◌, ◌++◌, length, vec_len, IfSome, IfNone, All};
 ghost use Rattle.std.specs.Prelude.{IfErr, OnOk};
 ghost use Rattle.plane_base.specs.Plane.{whole};
 ghost use Rattle.tin_base.specs.declared.frames.Frame.TheVariants.{Source};
@@ -13,9 +13,10 @@ ghost use Rattle.sheet_pieces.specs.SheetSegments.{path_vertices, segments_begun
 ghost use Rattle.carry_map.specs.declared.limits.TheConstants.{MOST_PIECES};
 ghost use Rattle.carry_map.specs.CarriedLists.{Grows, AreCarried};
 ghost use Rattle.carry_map.specs.Causes.{IsCause};
+ghost use Rattle.carry_map.specs.InsideStarts.{IsLeastWith};
 
 use crate::CarryFault;
-use crate::segments::{PathSegment, carry_segment};
+use crate::segments::{PathSegment, Start, carry_segment};
 use affine_image::image_of;
 use plane_base::Pt;
 use sheet_base::{Heights, PathRow};
@@ -32,37 +33,54 @@ pub(crate) struct ImagesSoFar {
     pub(crate) run: Vec<u32>,
 }
 
-/// A path, and the place of its first piece.
+/// A path, the place of its first piece, and a triangle that may have its first point, if one is known.
 #[derive(Clone, Copy)]
 pub(crate) struct PathAt {
     pub(crate) row: PathRow,
     pub(crate) from: Place,
+    pub(crate) guess: Option<u32>,
 }
 
-/// A triangle that has a point, and the image of the point.
+/// The least triangle that has a point, and the image of the point.
 #[derive(Clone, Copy)]
 struct Found {
     triangle: u32,
     image: Pt,
 }
 
-/// Where a point is found, or none where no triangle has it.
-fn find(index: &TinIndex, p: Pt) -> Option<Found>
-    ensures some { IfSome result (λ found. IsRoundedImage index.now p found.image) }
+/// The least triangle that has a point, which may be the one that is guessed, or none where no triangle has it.
+fn locate(index: &TinIndex, p: Pt, guess: Option<u32>) -> Option<u32>
+    ensures some { IfSome result (λ triangle. IsLeastWith index.now p triangle) }
     ensures none { IfNone result (IsInSome index.now Source (whole p) → ⊥) }
 {
-    let triangle = index.locate(p)?;
+    match guess {
+        Some(guess) => index.locate_near(p, guess),
+        None => index.locate(p),
+    }
+}
+
+/// Where a point is found, or none where no triangle has it.
+fn find(index: &TinIndex, p: Pt, guess: Option<u32>) -> Option<Found>
+    ensures start { IfSome result (λ found. IsLeastWith index.now p found.triangle) }
+    ensures image { IfSome result (λ found. IsRoundedImage index.now p found.image) }
+    ensures none { IfNone result (IsInSome index.now Source (whole p) → ⊥) }
+{
+    let triangle = locate(index, p, guess)?;
     Some(Found {
         triangle,
         image: image_of(index.tin(), triangle, p),
     })
 }
 
-/// The triangle of the last piece, or the one that is given where there is none.
-fn last_triangle(pieces: &[Piece], triangle: u32) -> u32 {
+/// Where the segment of a number starts: the first where the path's first point was found, and each other one in the
+/// triangle of the last piece, as is likely.
+fn start_of(number: u32, found: Found, pieces: &[Piece]) -> Start
+    ensures { (triangle : ℕ) → result ≡ Start.Found triangle → (number ≡ 0) × (triangle ≡ found.triangle) }
+{
     match pieces.last() {
-        Some(piece) => piece.tri,
-        None => triangle,
+        Some(piece) if number > 0 => Start::Guessed(piece.tri),
+        _ if number > 0 => Start::Guessed(found.triangle),
+        _ => Start::Found(found.triangle),
     }
 }
 
@@ -83,11 +101,12 @@ fn begin_run(gathered: &mut ImagesSoFar, image: Pt, height: Option<i64>) -> Resu
 }
 
 /// The segment of this number.
-fn way_at(points: &[Pt], track: PathAt, number: u32, guess: u32) -> PathSegment
+fn way_at(points: &[Pt], track: PathAt, number: u32, start: Start) -> PathSegment
     requires in_path { track.row.first + number < track.row.past }
     requires in_range { track.row.past ≤ length points.now }
     ensures a { result.a ≡ begin_of points.now track.row number }
     ensures b { result.b ≡ end_of points.now track.row number }
+    ensures start { result.start ≡ start }
     ensures from { result.from ≡ record { layer = track.from.layer; path = track.from.path; segment = number; piece = 0 } }
 {
     let begin = track.row.first + number;
@@ -100,7 +119,7 @@ fn way_at(points: &[Pt], track: PathAt, number: u32, guess: u32) -> PathSegment
             segment: number,
             piece: 0,
         },
-        guess,
+        start,
     }
 }
 
@@ -132,17 +151,16 @@ pub(crate) fn carry_path(
         (segments_begun (path_vertices points.now heights.now track.from.path track.row)) fault) }
     ensures grows { Grows pieces.old.items pieces.new.items }
 {
-    let Some(found) = find(index, points[track.row.first as usize]) else {
+    let Some(found) = find(index, points[track.row.first as usize], track.guess) else {
         return Err(CarryFault::Outside {
             path: track.from.path,
             segment: 0,
         });
     };
     let mut image = found.image;
-    // where a segment ends the next begins
-    let mut triangle = found.triangle;
     for number in 0..segment_count(track.row) {
-        let way = way_at(points, track, number, triangle);
+        let start = start_of(number, found, pieces);
+        let way = way_at(points, track, number, start);
         let ends = end_heights(heights, track.row, number);
         begin_run(gathered, image, ends.from)?;
         image = carry_segment(
@@ -156,7 +174,6 @@ pub(crate) fn carry_path(
             &mut gathered.heights,
             pieces,
         )?;
-        triangle = last_triangle(pieces, triangle);
     }
     if segment_count(track.row) == point_count(track.row) {
         return Ok(());

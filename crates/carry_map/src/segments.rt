@@ -14,24 +14,34 @@ ghost use Rattle.sheet_pieces.specs.SpotHeights.{param_height};
 ghost use Rattle.carry_map.specs.InsideStepHeights.{HaveParams};
 ghost use Rattle.sheet_base.specs.PointHeights.{IsHeightWithinReach};
 ghost use Rattle.carry_map.specs.Causes.{IsCutCause, IsWayCause};
+ghost use Rattle.carry_map.specs.InsideStarts.{IsStart};
 
 use crate::CarryFault;
 use affine_image::end_image;
 use plane_base::{Pt, is_same};
-use seg_walk::{Step, Steps, WalkFault, cut_from};
+use seg_walk::{Step, Steps, WalkFault, cut_from, cut_in};
 use sheet_base::Heights;
 use sheet_pieces::{EndHeights, height_between};
 use std::alloc::Global;
 use tin_base::{Piece, Place, SoundTin};
 use tin_index::TinIndex;
 
-/// A segment, the place of its first piece, and a triangle that may have its first end.
+/// What is known of the triangle in which a segment starts.
+#[derive(Clone, Copy)]
+pub(crate) enum Start {
+    /// The least that contains the first end.
+    Found(u32),
+    /// It may be the one of this number.
+    Guessed(u32),
+}
+
+/// A segment, the place of its first piece, and where it starts.
 #[derive(Clone, Copy)]
 pub(crate) struct PathSegment {
     pub(crate) a: Pt,
     pub(crate) b: Pt,
     pub(crate) from: Place,
-    pub(crate) guess: u32,
+    pub(crate) start: Start,
 }
 
 /// The image of the last point of a step's part, where the segment's first end has this image: a segment of one point
@@ -121,11 +131,16 @@ fn push_heights(ends: EndHeights, steps: &[Step], heights: &mut Heights) -> Resu
 
 /// The pieces of a segment, with the slices of their triangles.
 fn cut_way(alloc: Global, index: &TinIndex, way: PathSegment) -> Result<Steps, CarryFault>
+    requires start { IsStart index.now way.a way.start }
     ensures steps { IfOk result (λ steps. AreSteps index.now way.a way.b steps.items) }
     ensures inside { OnOk result (IsInside index.now way.a way.b) }
     ensures cause { IfErr result (λ fault. IsCutCause index.now way fault) }
 {
-    match cut_from(alloc, index, way.a, way.b, way.guess) {
+    let cut = match way.start {
+        Start::Found(triangle) => cut_in(alloc, index, way.a, way.b, triangle),
+        Start::Guessed(triangle) => cut_from(alloc, index, way.a, way.b, triangle),
+    };
+    match cut {
         Ok(steps) => Ok(steps),
         Err(WalkFault::Outside) => Err(CarryFault::Outside {
             path: way.from.path,
@@ -147,6 +162,7 @@ fn tell_segment(
     heights: &mut Heights,
     pieces: &mut Vec<Piece>,
 ) -> Result<Pt, CarryFault>
+    requires start { IsStart index.now way.a way.start }
     requires image { IsRoundedImage index.now way.a image }
     requires from { IsHeightWithinReach ends.from }
     requires to { IsHeightWithinReach ends.to }
@@ -188,6 +204,7 @@ pub(crate) fn carry_segment(
     heights: &mut Heights,
     pieces: &mut Vec<Piece>,
 ) -> Result<Pt, CarryFault>
+    requires start { IsStart index.now way.a way.start }
     requires image { IsRoundedImage index.now way.a image }
     requires from { IsHeightWithinReach ends.from }
     requires to { IsHeightWithinReach ends.to }

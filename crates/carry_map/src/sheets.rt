@@ -12,6 +12,7 @@ ghost use Rattle.carry_map.specs.CarriedLists.{Grows, AreCarried, AreSegmentsOf}
 ghost use Rattle.carry_map.specs.Causes.{IsFirstOutside, IsFirstTooMany, IsCause};
 
 use crate::CarryFault;
+use crate::guesses::guess_starts;
 use crate::paths::{ImagesSoFar, PathAt, carry_path};
 use sheet_base::{Heights, Images, Listed, Sheet};
 use std::alloc::Global;
@@ -37,6 +38,7 @@ fn carry_paths(
 {
     let points = sheet.points();
     let heights = sheet.heights();
+    let guesses = guess_starts(alloc, index, points, sheet.paths())?;
     // (as many crossings as half of the points find room)
     let mut gathered = ImagesSoFar {
         points: Vec::with_capacity(alloc, points.len().saturating_add(points.len() / 2))?,
@@ -54,6 +56,7 @@ fn carry_paths(
                 segment: 0,
                 piece: 0,
             },
+            guess: guesses.get(number).copied(),
         };
         carry_path(
             alloc,

@@ -109,6 +109,24 @@ pub fn cut_from(
     let Some(triangle) = index.locate_near(a, guess) else {
         return Err(WalkFault::Outside);
     };
+    cut_in(alloc, index, a, b, triangle)
+}
+
+/// As `cut`, where the least triangle that contains `a` is known.
+pub fn cut_in(
+    alloc: Global,
+    index: &TinIndex,
+    a: Pt,
+    b: Pt,
+    triangle: u32,
+) -> Result<Steps, WalkFault>
+    requires in_range { triangle < length index.now.triangles }
+    requires has_point { IsInTriangle index.now Source triangle (whole a) }
+    requires least { (other : ℕ) → other < triangle → IsInTriangle index.now Source other (whole a) → ⊥ }
+    ensures pieces { IfOk result (λ steps. AreSteps index.now a b steps.items) }
+    ensures inside { IfOk result (λ _. IsInside index.now a b) }
+    ensures outside { IsErrOf result Outside → IsInside index.now a b → ⊥ }
+{
     if !index.is_among_corners(b) {
         return Err(WalkFault::Outside);
     }

@@ -9,7 +9,7 @@ mod slices;
 mod steps;
 mod walks;
 
-pub use cuts::{cut, cut_from};
+pub use cuts::{cut, cut_from, cut_in};
 pub use faults::WalkFault;
 pub use laws::outcome_exists;
 pub use steps::{Step, Steps};

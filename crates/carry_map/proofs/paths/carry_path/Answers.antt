@@ -7,7 +7,7 @@ use Rattle.sheet_base.specs.Segments.{segments_in}
 use Rattle.carry_map.specs.Causes.{IsFirstOutside, IsCause, IsWayCause}
 use Rattle.sheet_pieces.proofs.PathVertices.{in_points}
 use Rattle.carry_map.proofs.ErrorExits.{exits, no_cause, grows_on}
-use Rattle.carry_map.proofs.PathSteps.{path_start, path_next, path_but_last, path_cause, path_outside}
+use Rattle.carry_map.proofs.PathSteps.{starts_at, path_start, path_next, path_but_last, path_cause, path_outside}
 use Rattle.carry_map.proofs.PathSteps.{few_images, few_counted, few_with_one, twice_last, in_row}
 use Rattle.std.proofs.lemmas.List.{length-append}
 use Rattle.tin_base.specs.declared.pieces.Place.{Place}
@@ -31,7 +31,13 @@ loop-number-init c =
     path_start c.args.index.now c.args.track.from.layer c.args.points.now c.args.heights.now c.args.track.from.path
     c.args.track.row c.args.most c.args.gathered.now.points.items c.args.gathered.now.heights
     c.args.gathered.now.run.items c.args.pieces.now.items c.in-Some.found.image
-    c.in-Some.ensures.some room (let each = c.requires.each in omega (arith, each))
+    c.in-Some.ensures.image room (let each = c.requires.each in omega (arith, each))
+
+pub carry_segment-requires-clause-start : goal.carry_segment-requires-clause-start
+carry_segment-requires-clause-start c =
+    starts_at c.args.index.now c.args.points.now c.args.track.row c.loop-number.number c.in-Some.found.triangle
+    c.way_at-way.result.a c.way_at-way.result.start c.in-Some.ensures.start c.way_at-way.ensures.a
+    (λ u is. c.start_of-start.ensures u (sym c.way_at-way.ensures.start ∙ is))
 
 pub carry_segment-requires-clause-image : goal.carry_segment-requires-clause-image
 carry_segment-requires-clause-image c =

@@ -11,6 +11,13 @@ use Rattle.carry_map.proofs.SheetSteps.{sheet_next, sheet_cause, sheet_all, twic
 use Rattle.carry_map.proofs.sheets.carry_paths.Goals as goal
 use Rattle.sheet_base.proofs.TiledPaths.{paths_few}
 
+pub guess_starts-requires : goal.guess_starts-requires
+guess_starts-requires c =
+    let few = paths_few c.args.sheet.now c.points-points.ensures.sheet in
+    let rows : length c.paths.result.now ≡ length c.args.sheet.now.paths =
+    ap (λ (rs : List PathRow). length rs) c.paths.ensures.paths in
+    omega arith
+
 pub overflow_cast-track : goal.overflow_cast-track
 overflow_cast-track c =
     let few = paths_few c.args.sheet.now c.points-points.ensures.sheet in
