@@ -75,7 +75,15 @@ fn text_length(page: &Page, before: &[Pair], edit: Edit, longest: u64) -> u64 {
     }
 }
 
-/// How many of the pairs come before this place. This many are known to.
+/// Whether crossings come after a vertex in fields.
+fn has_crossings(page: &Page, edit: Edit) -> bool {
+    match edit.what {
+        What::Vertices { point } => !crossings_of(page.images, point).is_empty(),
+        _ => false,
+    }
+}
+
+/// How many of the pairs come before this place, where so many of them do already.
 fn pairs_before(pairs: &[Pair], place: u32, known: usize) -> usize
     requires { known ≤ length pairs.now }
     ensures { result ≤ length pairs.now }
@@ -93,7 +101,9 @@ pub fn written_length(page: &Page) -> u64 {
     let mut length = page.bytes.len() as u64;
     let mut number = 0;
     for edit in page.sheet.edits() {
-        number = pairs_before(page.pairs, edit.start, number);
+        if has_crossings(page, *edit) {
+            number = pairs_before(page.pairs, edit.start, number);
+        }
         let text = text_length(page, &page.pairs[..number], *edit, longest);
         length = length.saturating_sub(span(*edit)).saturating_add(text);
     }

@@ -16,7 +16,7 @@ pub struct Page<'a> {
     pub images: &'a Images,
 }
 
-/// How many pairs come before this place. This many are known to.
+/// How many pairs come before this place, where so many of them do already.
 pub fn number_at(page: &Page, place: u32, from: usize) -> usize
     requires { from ≤ number_at (read_of page.now) place }
     ensures { result ≡ number_at (read_of page.now) place }

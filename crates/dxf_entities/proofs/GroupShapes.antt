@@ -1,6 +1,6 @@
 -- What is read of an entity's groups alone, without places: fields, points, paths and kinds.
 use Rattle.std.proofs.Common.{◌≡◌, Bool, true, false, cond, refl, ap, ◌∙◌, List, [], ◌∷◌, map, Option, None, Some}
-use Rattle.std.proofs.Common.{Result, Ok, Err, filter, take_while, ℕ, ◌*◌, ℤ, pos, option_map, length, suc, sym, ◌++◌}
+use Rattle.std.proofs.Common.{Result, Ok, Err, filter, take_while, ℕ, ◌*◌, ℤ, pos, option_map, length, sym, ◌++◌}
 use Rattle.std.proofs.Common.{codes, bytes_eq}
 use Rattle.std.specs.List.{list_any, list_all}
 use Rattle.std.proofs.lemmas.List.Sums.{take_while-cons}

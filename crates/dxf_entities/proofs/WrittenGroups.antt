@@ -1,5 +1,5 @@
 -- Groups and numbers that are written are read again.
-use Rattle.std.proofs.Common.{◌≡◌, ◌==◌, ℕ, zero, suc, ◌+◌, ◌-◌, ◌/◌, ◌%◌, ◌<◌, ℤ, pos, negsuc, List, [], ◌∷◌, ◌++◌}
+use Rattle.std.proofs.Common.{◌≡◌, ◌==◌, ℕ, zero, suc, ◌+◌, ◌/◌, ◌%◌, ◌<◌, ℤ, pos, negsuc, List, [], ◌∷◌, ◌++◌}
 use Rattle.std.proofs.Common.{length, get_or, Bool, true, false, cond, refl, arith, min, ap, sym, subst, Option}
 use Rattle.std.proofs.Common.{None, Some, Result, Ok, Err, nat_eq, ◌*◌, ◌^◌, ◌≤◌, ◌∙◌, unsigned_abs}
 use Rattle.std.specs.Prelude.{⊤, decimal, nat_le}

@@ -44,6 +44,7 @@ pub struct Drawing {
 }
 
 /// The edit of a field's value.
+#[inline(always)]
 pub fn value_edit(what: What, pair: &Pair) -> Edit
     ensures { result ≡ value_edit what pair.now }
 {
@@ -55,6 +56,7 @@ pub fn value_edit(what: What, pair: &Pair) -> Edit
 }
 
 /// 1 where a number lost digits.
+#[inline(always)]
 fn lost_count(lost: bool) -> u64
     ensures count { result ≡ lost_count lost }
     ensures few { result ≤ 1 }
@@ -63,6 +65,7 @@ fn lost_count(lost: bool) -> u64
 }
 
 /// How many numbers of a point lost digits.
+#[inline(always)]
 fn lost_of(spot: &PointFields) -> u64
     ensures count { result ≡ lost_of spot.now }
     ensures few { result ≤ 2 }
@@ -86,6 +89,7 @@ impl Drawing {
     }
 
     /// The number of the next point.
+    #[inline(always)]
     pub fn point(&self) -> u32
         requires { HoldsAtMost (2 ^ 31) (contents_of self.now) }
         ensures { result ≡ length (contents_of self.now).points }
@@ -94,6 +98,7 @@ impl Drawing {
     }
 
     /// The number of the next path.
+    #[inline(always)]
     pub fn path(&self) -> u32
         requires { HoldsAtMost (2 ^ 31) (contents_of self.now) }
         ensures { result ≡ length (contents_of self.now).paths }
@@ -102,6 +107,7 @@ impl Drawing {
     }
 
     /// Adds a point without a height.
+    #[inline(always)]
     pub fn add_point(&mut self, spot: &PointFields) -> Result<(), AllocError>
         requires { HoldsAtMost (2 ^ 31) (contents_of self.old) }
         ensures { OnOk result (contents_of self.new ≡ with_point (contents_of self.old) spot.now) }
@@ -130,6 +136,7 @@ impl Drawing {
     }
 
     /// Adds an edit.
+    #[inline(always)]
     pub fn add_edit(&mut self, edit: Edit) -> Result<(), AllocError>
         ensures { OnOk result (contents_of self.new ≡ with_edits (contents_of self.old) (edit ∷ [])) }
     {
@@ -138,6 +145,7 @@ impl Drawing {
     }
 
     /// Adds the edits of a point's values.
+    #[inline(always)]
     pub fn add_spot_edits(&mut self, point: u32, spot: &PointFields) -> Result<(), AllocError>
         ensures { OnOk result (contents_of self.new ≡ with_edits (contents_of self.old) (spot_edits point spot.now)) }
     {
@@ -149,6 +157,7 @@ impl Drawing {
     }
 
     /// Adds the path of the points from one number to before another.
+    #[inline(always)]
     pub fn add_path(&mut self, kind: PathKind, first: u32, past: u32) -> Result<(), AllocError>
         ensures { OnOk result (contents_of self.new ≡ with_rows (contents_of self.old)
             (record { kind = kind; first = first; past = past } ∷ [])) }

@@ -11,6 +11,7 @@ use dxf_pairs::Pair;
 use sheet_base::LayerFault;
 
 /// Whether the pair belongs to an extrusion.
+#[inline(always)]
 fn is_extrusion(pair: &Pair) -> bool
     ensures { result ≡ is_extrusion pair.now }
 {
@@ -18,15 +19,16 @@ fn is_extrusion(pair: &Pair) -> bool
 }
 
 /// Whether the pair allows the direction upwards.
+#[inline(always)]
 fn is_upright(bytes: &[u8], pair: &Pair) -> bool
     ensures { result ≡ is_upright bytes.now pair.now }
 {
-    if has_code(230, pair) {
-        equals(bytes, 1, pair)
-    } else if is_extrusion(pair) {
-        equals(bytes, 0, pair)
-    } else {
+    if !is_extrusion(pair) {
         true
+    } else if has_code(230, pair) {
+        equals(bytes, 1, pair)
+    } else {
+        equals(bytes, 0, pair)
     }
 }
 

@@ -45,8 +45,11 @@ pub fn has_field(code: i32, fields: &[Pair]) -> bool
 pub fn field(code: i32, entity: &Entity) -> Result<Option<Pair>, LayerFault>
     ensures { result ≡ field_at code (entity_view entity.now) }
 {
+    let pairs = entity.pairs;
     let mut found = None;
-    for pair in fields_of(entity) {
+    let mut at = 0;
+    while at < pairs.len() && pairs[at].code < 1000 {
+        let pair = &pairs[at];
         if has_code(code, pair) {
             if found.is_some() {
                 return Err(LayerFault::Count {
@@ -55,11 +58,13 @@ pub fn field(code: i32, entity: &Entity) -> Result<Option<Pair>, LayerFault>
             }
             found = Some(*pair);
         }
+        at += 1;
     }
     Ok(found)
 }
 
 /// The field that was found, which has to be there.
+#[inline(always)]
 pub fn there(entity: &Entity, found: Option<Pair>) -> Result<Pair, LayerFault>
     ensures { result ≡ is_there (entity_view entity.now) found }
 {
@@ -72,6 +77,7 @@ pub fn there(entity: &Entity, found: Option<Pair>) -> Result<Pair, LayerFault>
 }
 
 /// The field of the code, which has to be there.
+#[inline(always)]
 pub fn need_field(code: i32, entity: &Entity) -> Result<Pair, LayerFault>
     ensures { result ≡ wanted_at code (entity_view entity.now) }
 {
@@ -80,6 +86,7 @@ pub fn need_field(code: i32, entity: &Entity) -> Result<Pair, LayerFault>
 }
 
 /// The coordinate of a field.
+#[inline(always)]
 pub fn coordinate(bytes: &[u8], exact: bool, pair: &Pair) -> Result<Read, LayerFault>
     ensures { result ≡ coordinate_of bytes.now exact pair.now }
 {
@@ -96,6 +103,7 @@ pub fn coordinate(bytes: &[u8], exact: bool, pair: &Pair) -> Result<Read, LayerF
 }
 
 /// The coordinate of a field that has to be there.
+#[inline(always)]
 pub fn coordinate_at(
     bytes: &[u8],
     exact: bool,

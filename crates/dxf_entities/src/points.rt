@@ -26,6 +26,7 @@ pub struct LineFields {
 }
 
 /// The point of the fields of two codes.
+#[inline(always)]
 pub fn spot_at(
     bytes: &[u8],
     exact: bool,

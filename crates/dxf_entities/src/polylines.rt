@@ -34,6 +34,7 @@ pub fn kind_of(bytes: &[u8], entity: &Entity) -> Result<PathKind, LayerFault>
 }
 
 /// Whether the pair belongs to a vertex's group.
+#[inline(always)]
 fn is_group_code(pair: &Pair) -> bool
     ensures { result ≡ is_group_code pair.now }
 {
@@ -41,6 +42,7 @@ fn is_group_code(pair: &Pair) -> bool
 }
 
 /// The fault of a field in a vertex's group: a width or a bulge.
+#[inline(always)]
 fn fault_in_group(bytes: &[u8], pair: &Pair) -> Option<LayerFault>
     ensures { result ≡ fault_in_group bytes.now pair.now }
 {
@@ -57,6 +59,7 @@ fn fault_in_group(bytes: &[u8], pair: &Pair) -> Option<LayerFault>
 }
 
 /// The place past a vertex's group, with which the pairs begin. Refuses a width or a bulge.
+#[inline(always)]
 fn past_group(bytes: &[u8], past: u32, pairs: &[Pair]) -> Result<u32, LayerFault>
     ensures { result ≡ past_group bytes.now past pairs.now }
 {
@@ -74,6 +77,7 @@ fn past_group(bytes: &[u8], past: u32, pairs: &[Pair]) -> Result<u32, LayerFault
 }
 
 /// The vertex of two fields and of its group, with which the other fields begin.
+#[inline(always)]
 fn vertex_of(
     bytes: &[u8],
     exact: bool,
@@ -94,6 +98,7 @@ fn vertex_of(
 }
 
 /// Adds a vertex in fields, with room after it.
+#[inline(always)]
 fn add_vertex(drawing: &mut Drawing, vertex: &VertexFields) -> Result<(), AllocError>
     requires { HoldsAtMost (2 ^ 31) (contents_of drawing.old) }
     ensures added { OnOk result (contents_of drawing.new ≡ with_vertices (contents_of drawing.old) (vertex.now ∷ [])) }
@@ -125,6 +130,7 @@ fn is_number(pair: &Pair) -> bool
 }
 
 /// The vertex with which the fields begin, where they begin with one. Refuses a number alone.
+#[inline(always)]
 fn first_vertex(
     bytes: &[u8],
     exact: bool,

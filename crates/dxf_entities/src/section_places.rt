@@ -21,10 +21,14 @@ pub enum Where {
 }
 
 /// Whether the pair ends a section.
+#[inline(always)]
 pub fn ends_section(bytes: &[u8], pair: &Pair) -> bool
     ensures { result ≡ is_end_of_section bytes.now pair.now }
 {
-    is_pair(bytes, 0, b"ENDSEC".as_slice(), pair) || is_pair(bytes, 0, b"EOF".as_slice(), pair)
+    // most pairs are of another code
+    has_code(0, pair)
+        && (is_pair(bytes, 0, b"ENDSEC".as_slice(), pair)
+            || is_pair(bytes, 0, b"EOF".as_slice(), pair))
 }
 
 /// Where the pair after one outside all sections is.
@@ -52,6 +56,7 @@ fn section(name: &[u8]) -> Where
 }
 
 /// Where the pair after this one is.
+#[inline(always)]
 pub fn behind(bytes: &[u8], place: Where, pair: &Pair) -> Where
     ensures { result ≡ section_behind bytes.now place pair.now }
 {

@@ -1,13 +1,14 @@
 -- The lines of a text, its first line, and the lines after a line feed.
 use Rattle.std.proofs.Common.{◌≡◌, ◌==◌, ◌<◌, ◌+◌, ℕ, List, [], ◌∷◌, length, take, drop, refl, ◌∙◌, ap, arith}
-use Rattle.std.proofs.Common.{min, ◌++◌, Bool, true, false}
+use Rattle.std.proofs.Common.{min, ◌++◌, Bool, true, false, ◌-◌, zero, suc, sym, Option, None, Some}
+use Rattle.std.specs.Prelude.{slice_index, if◌then◌else◌}
 use Rattle.std.proofs.lemmas.List.Splits.{length-slice_split, slice_split_at}
 use Rattle.std.proofs.lemmas.List.{take_rest, length-drop, length-take-le, drop-drop}
 use Rattle.std.proofs.Math.Seq.{drop-length}
 use Rattle.std.specs.List.{slice_split, onto_first}
 use Rattle.std.proofs.lemmas.List.Elements.{All-cons}
 use Rattle.text_places.proofs.LineParts.{part_alone, part_before}
-use Rattle.memchr.specs.Find.{is_byte, Nowhere, NoneBefore, Passes}
+use Rattle.memchr.specs.Find.{is_byte, Nowhere, NoneBefore, Passes, places_from, places, TakesFirst, IsFirstByte}
 use Rattle.dxf_pairs.specs.declared.line_ends.TheConstants.{LINE_FEED}
 use Rattle.dxf_pairs.specs.Lines.{lines_of, without_empty_last, lines_from, lines_of_texts, between}
 use Rattle.dxf_pairs.specs.InLines.{IsOneLine}
@@ -38,6 +39,42 @@ one_line text some nowhere =
     alone : (line : List ℕ) → 0 < length line → without_empty_last (line ∷ []) ≡ line ∷ []
     alone [] some = absurd (omega arith)
     alone (byte ∷ line) some = refl
+
+-- the first of the places from one on that pass, and none of them
+module _ (test : ℕ → Bool) (hay : List ℕ) where
+  first_place : (i n end k : ℕ) (rest : List ℕ) → i + n ≡ end → places_from test hay i n ≡ k ∷ rest
+      → NoneBefore (Passes test hay) i end k × Passes test hay k
+  unfolding places_from
+  first_place i zero end k rest size is = absurd (cc)
+  first_place i (suc n) end k rest size is =
+      by (test (slice_index hay i)) refl is (first_place (i + 1) n end k rest (omega (arith, size))) where
+        by : (here : Bool) → test (slice_index hay i) ≡ here
+            → (if here then i ∷ places_from test hay (i + 1) n else places_from test hay (i + 1) n) ≡ k ∷ rest
+            → (places_from test hay (i + 1) n ≡ k ∷ rest
+            → NoneBefore (Passes test hay) (i + 1) end k × Passes test hay k)
+            → NoneBefore (Passes test hay) i end k × Passes test hay k
+        by true here is later = grind arith
+        by false here is later = let next = later is in grind arith
+
+  no_place : (i n end : ℕ) → i + n ≡ end → places_from test hay i n ≡ [] → Nowhere (Passes test hay) i end
+  unfolding places_from
+  no_place i zero end size is = λ q low below. absurd (omega (arith, size))
+  no_place i (suc n) end size is =
+      by (test (slice_index hay i)) refl is (no_place (i + 1) n end (omega (arith, size))) where
+        by : (here : Bool) → test (slice_index hay i) ≡ here
+            → (if here then i ∷ places_from test hay (i + 1) n else places_from test hay (i + 1) n) ≡ []
+            → (places_from test hay (i + 1) n ≡ [] → Nowhere (Passes test hay) (i + 1) end)
+            → Nowhere (Passes test hay) i end
+        by true here is later = absurd (cc)
+        by false here is later = let next = later is in grind arith
+
+-- what an iterator over the places gives first
+pub first_taken : (test : ℕ → Bool) (hay now left : List ℕ) (found : Option ℕ) → now ≡ places test hay
+    → TakesFirst now found left → IsFirstByte test hay found
+first_taken test hay now left None are taken =
+    no_place test hay 0 (length hay - 0) (length hay) (omega arith) (sym are ∙ taken.0)
+first_taken test hay now left (Some k) are taken =
+    first_place test hay 0 (length hay - 0) (length hay) k left (omega arith) (sym are ∙ taken)
 
 -- the first line ends before the first line feed
 line_before : (text : List ℕ) (end : ℕ) → NoneBefore (Passes (is_byte LINE_FEED) text) 0 (length text) end

@@ -1,9 +1,10 @@
 //! Where lines end.
 
 ghost use Rattle.std.specs.Prelude.{◌≡◌, ◌≤◌, ◌<◌, ◌∷◌, ◌+◌, ℕ, length};
+ghost use Rattle.memchr.specs.Find.{IsFirstByte, is_byte};
 ghost use Rattle.dxf_pairs.specs.Lines.{lines_from, line_at};
 
-use memchr::memchr;
+use memchr::memchr_iter;
 
 /// What ends a line.
 pub const LINE_FEED: u8 = b'\n';
@@ -17,7 +18,17 @@ pub struct LineEnds {
     pub past: usize,
 }
 
+/// How many bytes come before the first line feed, where there is one. It is mostly near, and there
+/// an iterator looks first.
+#[inline(always)]
+fn count_to_feed(text: &[u8]) -> Option<usize>
+    ensures { IsFirstByte (is_byte LINE_FEED) text.now result }
+{
+    memchr_iter(LINE_FEED, text).next()
+}
+
 /// The line that starts at a place before the end of the bytes.
+#[inline(always)]
 pub fn line_from(bytes: &[u8], start: usize) -> LineEnds
     requires { start < length bytes.now }
     ensures first { (number : ℕ) → lines_from bytes.now start number
@@ -28,7 +39,7 @@ pub fn line_from(bytes: &[u8], start: usize) -> LineEnds
     ensures forward { start < result.past }
     ensures within { result.past ≤ length bytes.now }
 {
-    match memchr(LINE_FEED, &bytes[start..]) {
+    match count_to_feed(&bytes[start..]) {
         Some(count) => LineEnds {
             start,
             end: start + count,

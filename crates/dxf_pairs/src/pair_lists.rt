@@ -15,7 +15,7 @@ use crate::codes::code_in;
 use crate::faults::PairFault;
 use crate::line_ends::{LineEnds, line_from};
 use crate::pairs::Pair;
-use crate::plain_codes::{padded_code, plain_code};
+use crate::plain_codes::short_code;
 use std::alloc::Global;
 
 /// What the binary form of a drawing begins with.
@@ -42,28 +42,6 @@ fn value_places(bytes: &[u8], line: LineEnds) -> (usize, usize)
     (start, start + length)
 }
 
-/// The line that starts at a place before the end of the bytes, and its group code, where it has one: any line.
-#[inline(never)]
-fn any_code_line(bytes: &[u8], start: usize) -> (LineEnds, Option<i32>)
-    requires { start < length bytes.now }
-    ensures first { (number : ℕ) → lines_from bytes.now start number
-        ≡ line_at bytes.now result.0 number ∷ lines_from bytes.now result.0.past (number + 1) }
-    ensures start { result.0.start ≡ start }
-    ensures forward { start < result.0.past }
-    ensures within { result.0.past ≤ length bytes.now }
-    ensures code { result.1 ≡ code_of (between start result.0.end bytes.now) }
-{
-    if let Some(plain) = plain_code(&bytes[start..]) {
-        let end = start + plain.end;
-        let past = end + 1;
-        return (LineEnds { start, end, past }, Some(plain.code));
-    }
-    let line = line_from(bytes, start);
-    let text = &bytes[start..line.end];
-    let (before, length) = value_in_line(text);
-    (line, code_in(&text[before..before + length]))
-}
-
 /// The line that starts at a place before the end of the bytes, and its group code, where it has one.
 #[inline(always)]
 fn code_line(bytes: &[u8], start: usize) -> (LineEnds, Option<i32>)
@@ -75,12 +53,15 @@ fn code_line(bytes: &[u8], start: usize) -> (LineEnds, Option<i32>)
     ensures within { result.0.past ≤ length bytes.now }
     ensures code { result.1 ≡ code_of (between start result.0.end bytes.now) }
 {
-    if let Some(plain) = padded_code(&bytes[start..]) {
+    if let Some(plain) = short_code(&bytes[start..]) {
         let end = start + plain.end;
         let past = end + 1;
         return (LineEnds { start, end, past }, Some(plain.code));
     }
-    any_code_line(bytes, start)
+    let line = line_from(bytes, start);
+    let text = &bytes[start..line.end];
+    let (before, length) = value_in_line(text);
+    (line, code_in(&text[before..before + length]))
 }
 
 /// The pair whose code's line starts at the place and has the number.

@@ -46,7 +46,8 @@ fn front_of(text: &[u8]) -> FirstDigits
 
 /// The group code of the first line, where the line is one to four digits between blanks and ends at
 /// a line feed.
-pub fn plain_code(text: &[u8]) -> Option<PlainCode>
+#[inline(never)]
+fn plain_code(text: &[u8]) -> Option<PlainCode>
     ensures within { IfSome result (λ plain. plain.end < length text.now) }
     ensures line { IfSome result (λ plain. lines_of text.now ≡ take plain.end text.now ∷ lines_of (drop (plain.end + 1) text.now)) }
     ensures code { IfSome result (λ plain. code_of (take plain.end text.now) ≡ Some plain.code) }
@@ -90,7 +91,7 @@ fn worth(byte: u8) -> u32
 /// The group code of the first line, where the line is one to three digits behind spaces in three
 /// places, and ends at a carriage return and a line feed.
 #[inline(always)]
-pub fn padded_code(text: &[u8]) -> Option<PlainCode>
+fn padded_code(text: &[u8]) -> Option<PlainCode>
     ensures within { IfSome result (λ plain. plain.end < length text.now) }
     ensures line { IfSome result (λ plain. lines_of text.now ≡ take plain.end text.now ∷ lines_of (drop (plain.end + 1) text.now)) }
     ensures code { IfSome result (λ plain. code_of (take plain.end text.now) ≡ Some plain.code) }
@@ -106,4 +107,17 @@ pub fn padded_code(text: &[u8]) -> Option<PlainCode>
         code: number as i32,
         end: 4,
     })
+}
+
+/// The group code of the first line, where the line is laid out in one of these two ways.
+#[inline(always)]
+pub fn short_code(text: &[u8]) -> Option<PlainCode>
+    ensures within { IfSome result (λ plain. plain.end < length text.now) }
+    ensures line { IfSome result (λ plain. lines_of text.now ≡ take plain.end text.now ∷ lines_of (drop (plain.end + 1) text.now)) }
+    ensures code { IfSome result (λ plain. code_of (take plain.end text.now) ≡ Some plain.code) }
+{
+    match padded_code(text) {
+        Some(plain) => Some(plain),
+        None => plain_code(text),
+    }
 }
