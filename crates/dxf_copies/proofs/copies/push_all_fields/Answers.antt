@@ -8,3 +8,6 @@ loop-image-preserved c = grind (arith, common_steps)
 
 pub returns : goal.returns
 returns c = grind (arith, common_steps)
+
+pub returns-in_err-push_fields : goal.returns-in_err-push_fields
+returns-in_err-push_fields c = grind (arith, common_steps)

@@ -1,5 +1,6 @@
 -- Answers to the goals of `handle_behind` in src/handle_counts.rt.
 use Rattle.std.proofs.Common.{arith, sym, ◌∙◌}
+use Rattle.std.proofs.lemmas.Grind.{common_steps}
 use Rattle.dxf_copies.specs.PageViews.{read_of}
 use Rattle.dxf_copies.specs.Rendering.{entity_at}
 use Rattle.dxf_copies.proofs.HandleCounts.{number_within, few_copies, one_counted, none_more, counts_small}
@@ -41,3 +42,6 @@ loop-edit-preserved c =
           (sym (few_copies (entity_at read _) c.copies_of-copies.result (omega (arith, w.if-copies-gt1.false)))
           ∙ c.copies_of-copies.ensures))
     ]
+
+pub returns : goal.returns
+returns c = grind (arith, common_steps)

@@ -8,3 +8,9 @@ returns-in-Some c = grind (arith, common_steps)
 
 pub returns-in-Some-first_entity : goal.returns-in-Some-first_entity
 returns-in-Some-first_entity c = grind (arith, common_steps)
+
+pub returns-in-None : goal.returns-in-None
+returns-in-None c = grind (arith, common_steps)
+
+pub returns-in-None-first_entity : goal.returns-in-None-first_entity
+returns-in-None-first_entity c = grind (arith, common_steps)

@@ -5,3 +5,9 @@ use Rattle.dxf_entities.proofs.polylines.past_group.Goals as goal
 
 pub returns-in-Some : goal.returns-in-Some
 returns-in-Some c = grind (arith, common_steps)
+
+pub loop-pair-preserved : goal.loop-pair-preserved
+loop-pair-preserved c = grind (arith, common_steps)
+
+pub returns-then-not-is_group_code : goal.returns-then-not-is_group_code
+returns-then-not-is_group_code c = grind (arith, common_steps)

@@ -1,6 +1,7 @@
 -- Answers to the goals of `read_light` in src/polylines.rt.
 use Rattle.std.proofs.Common.{◌≡◌, sym, subst, arith, ◌+◌, ◌-◌, ◌≤◌, length, pos, ◌^◌, Ok, Err}
 use Rattle.std.specs.Prelude.{int_lt}
+use Rattle.std.proofs.lemmas.Grind.{common_steps}
 use Rattle.dxf_pairs.specs.declared.pairs.Pair.{Pair}
 use Rattle.dxf_entities.specs.EntityViews.{entity_view}
 use Rattle.dxf_entities.specs.Polylines.{vertices_in, count_of, light_shapes}
@@ -85,3 +86,6 @@ returns-clause-grown c =
     holds_more ((count + length c.fields_of.result.now) + 1) (count + (length c.args.entity.now.pairs.now + 1))
     (contents_of c.add_path_from.new.drawing)
     (c.in_ok-add_path_from.ensures.grown (count + length c.fields_of.result.now) edited) (omega (arith, short))
+
+pub read_vertices-requires-clause-few : goal.read_vertices-requires-clause-few
+read_vertices-requires-clause-few c = grind (arith, common_steps)

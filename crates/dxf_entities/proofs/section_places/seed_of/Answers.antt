@@ -12,3 +12,6 @@ returns-then-names_seed c = grind (arith, common_steps)
 
 pub loop-number-preserved : goal.loop-number-preserved
 loop-number-preserved c = grind (arith, common_steps)
+
+pub returns : goal.returns
+returns c = grind (arith, common_steps)
