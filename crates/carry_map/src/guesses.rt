@@ -13,6 +13,9 @@ use tin_index::TinIndex;
 /// Layers of fewer paths are searched as they stand.
 const FEW_PATHS: usize = 4096;
 
+/// Fewer triangles are near at hand in any order.
+const FEW_TRIANGLES: u32 = 1 << 15;
+
 /// So many paths are compared with the one before.
 const SAMPLES: usize = 1024;
 
@@ -27,7 +30,7 @@ const CELLS: u32 = SIDE * SIDE;
 
 /// For each path a triangle that may have its first point, where the paths are scattered. They are searched for cell by
 /// cell: so the same triangles are read again and again, and not each from far memory. There is none where the paths
-/// stand near each other.
+/// stand near each other, or the triangles are few.
 pub(crate) fn guess_starts(
     alloc: Global,
     index: &TinIndex,
@@ -36,7 +39,7 @@ pub(crate) fn guess_starts(
 ) -> Result<Vec<u32>, AllocError>
     requires { length paths.now < 2 ^ 32 }
 {
-    if !are_scattered(points, paths) {
+    if index.tin().triangle_count() < FEW_TRIANGLES || !are_scattered(points, paths) {
         return Ok(Vec::new(alloc));
     }
     let entries = entries_of(alloc, points, paths)?;
@@ -58,7 +61,10 @@ fn search(
 ) {
     let mut last = 0;
     for number in numbers {
-        if let Some(triangle) = index.locate_near(first_point(points, paths, *number as usize), last) {
+        if let Some(triangle) = index.locate_near(
+            first_point(points, paths, *number as usize),
+            last,
+        ) {
             last = triangle;
             if let Some(guess) = guesses.get_mut(*number as usize) {
                 *guess = triangle;
@@ -115,11 +121,7 @@ fn half_round(rect: &Rect) -> i64 {
 }
 
 /// Each path under the cell in which it begins.
-fn entries_of(
-    alloc: Global,
-    points: &[Pt],
-    paths: &[PathRow],
-) -> Result<Vec<Entry>, AllocError>
+fn entries_of(alloc: Global, points: &[Pt], paths: &[PathRow]) -> Result<Vec<Entry>, AllocError>
     requires { length paths.now < 2 ^ 32 }
     ensures cells { IfOk result (λ entries. All (λ entry. entry.key < CELLS) entries.items) }
     ensures count { IfOk result (λ entries. length entries.items ≡ length paths.now) }

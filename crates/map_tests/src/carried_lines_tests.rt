@@ -2,7 +2,7 @@
 
 ghost use Rattle.std.specs.Prelude.{◌≤◌, ◌^◌, length};
 
-use crate::largest_maps::{CELLS, lines_of_cells};
+use crate::largest_maps::{CELLS, lines_of_cells, scattered_lines_of_cells};
 use carry_map::{Carried, MOST_PIECES, carry_layer};
 use migrate_mode::make_tin;
 use sheet_base::How;
@@ -37,20 +37,40 @@ fn carry_lines(alloc: Global, bytes: &[u8]) -> Option<Carried>
     carry_layer::<Wkt>(alloc, &index, bytes, PLAIN, 0, MOST_PIECES, &mut pieces).ok()
 }
 
-/// How many paths, segments and pieces the lines of all cells have, carried as a layer.
-fn counts(alloc: Global) -> Result<Option<(u32, u32, u32)>, AllocError> {
-    let layer = lines_of_cells(alloc)?;
+/// How many paths, segments and pieces the lines of this layer have when they are carried.
+fn counts(alloc: Global, layer: &str) -> Option<(u32, u32, u32)> {
     let bytes = layer.as_bytes();
     if bytes.len() > 1 << 26 {
-        return Ok(None);
+        return None;
     }
-    match carry_lines(alloc, bytes) {
-        Some(carried) => Ok(Some((carried.paths, carried.segments, carried.pieces))),
-        None => Ok(None),
-    }
+    let carried = carry_lines(alloc, bytes)?;
+    Some((carried.paths, carried.segments, carried.pieces))
+}
+
+/// Those of the lines of all cells.
+fn counts_in_order(alloc: Global) -> Result<Option<(u32, u32, u32)>, AllocError> {
+    let layer = lines_of_cells(alloc)?;
+    Ok(counts(alloc, &layer))
+}
+
+/// Those of a line of each cell, the cells far from each other.
+fn counts_scattered(alloc: Global) -> Result<Option<(u32, u32, u32)>, AllocError> {
+    let layer = scattered_lines_of_cells(alloc)?;
+    Ok(counts(alloc, &layer))
 }
 
 #[test]
 fn half_a_million_lines_are_two_pieces_each(rt: HostRuntime) {
-    assert_eq!(rt; counts(rt.alloc()), Ok(Some((524288, 524288, 1048576))));
+    assert_eq!(rt;
+        counts_in_order(rt.alloc()),
+        Ok(Some((524288, 524288, 1048576)))
+    );
+}
+
+#[test]
+fn scattered_lines_are_two_pieces_each(rt: HostRuntime) {
+    assert_eq!(rt;
+        counts_scattered(rt.alloc()),
+        Ok(Some((262144, 262144, 524288)))
+    );
 }

@@ -58,3 +58,17 @@ pub fn lines_of_cells(alloc: Global) -> Result<String, AllocError> {
     }
     Ok(text)
 }
+
+/// A line in each cell, which crosses its diagonal once. From each line to the next it is far: hundreds of columns and of
+/// rows.
+pub fn scattered_lines_of_cells(alloc: Global) -> Result<String, AllocError> {
+    let mut text = String::new(alloc);
+    for j in 0..CELLS {
+        for i in 0..CELLS {
+            let left = 10 * (257 * i % CELLS);
+            let low = 10 * ((j + 171 * i) % CELLS) + 2;
+            put_line(&mut text, left, low)?;
+        }
+    }
+    Ok(text)
+}

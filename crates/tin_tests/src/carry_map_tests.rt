@@ -292,49 +292,6 @@ fn carries_a_ring_to_its_first_point(rt: HostRuntime) {
     assert_eq!(rt; first_other(rt.alloc(), RING_AND_POINT), None);
 }
 
-/// Dots in one triangle and in the other, by turns.
-const BY_TURNS: [Drawn; 2] = [
-    (PathKind::Dot, &[(1_000, 1_000)]),
-    (PathKind::Dot, &[(0, 9_000)]),
-];
-
-/// 5,000 dots, each far from the one before, carried over the square.
-fn scattered_pieces(alloc: Global) -> Option<Vec<Piece>> {
-    let mut paths = Vec::new(alloc);
-    for _ in 0..2_500 {
-        paths.push(BY_TURNS[0]).ok()?;
-        paths.push(BY_TURNS[1]).ok()?;
-    }
-    let ground = ground_of(alloc, Shape::Square, &paths)?;
-    let mut pieces = Vec::new(alloc);
-    let _ = carry(alloc, &ground.index, &ground.sheet, 0, 5_000, &mut pieces).ok()?;
-    Some(pieces)
-}
-
-/// The number of the first piece that is not the one of its dot, or how many there are.
-fn first_not_by_turns(pieces: &[Piece]) -> u32 {
-    let mut path = 0;
-    for piece in pieces {
-        let place = (path, 0, 0);
-        let want = if path % 2 == 0 {
-            (place, 0, (101_000, 101_000), (101_000, 101_000))
-        } else {
-            (place, 1, (100_000, 109_000), (100_000, 109_000))
-        };
-        if !is_piece(piece, 0, &want) {
-            return path;
-        }
-        path = path.saturating_add(1);
-    }
-    path
-}
-
-#[test]
-fn scattered_dots_are_carried_in_their_order(rt: HostRuntime) {
-    let pieces = scattered_pieces(rt.alloc());
-    assert_eq!(rt; pieces.map(|pieces| first_not_by_turns(&pieces)), Some(5_000));
-}
-
 /// Through the corner of six triangles, and along their outer edge.
 const OVER_SIX: &[CarriedPaths] = &[
     CarriedPaths {

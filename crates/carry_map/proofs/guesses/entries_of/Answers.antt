@@ -10,8 +10,7 @@ pub loop-number-preserved : goal.loop-number-preserved
 loop-number-preserved c =
     let entry : Entry = record { key = c.stripe-row.result * SIDE + c.stripe-column.result; number = c.loop-number.number } in
     let more : c.push.new.self.items ≡ c.loop-number.entries.items ++ entry ∷ [] = c.in_ok-push.ensures.items in
-    let within : entry.key < CELLS = omega (arith, c.stripe-row.ensures, c.stripe-column.ensures) in
-    (
+    let within : entry.key < CELLS = omega (arith, c.stripe-row.ensures, c.stripe-column.ensures) in (
       subst (λ (entries : List Entry). All (λ (e : Entry). e.key < CELLS) entries) (sym more)
           (All-push (λ (e : Entry). e.key < CELLS) c.loop-number.entries.items entry c.loop-number.invariant.0 within),
       ap (λ (entries : List Entry). length entries) more
