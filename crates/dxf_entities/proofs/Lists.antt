@@ -1,6 +1,6 @@
 -- Fields found so far.
 use Rattle.std.proofs.Common.{arith, ◌-◌, ◌+◌, ◌≡◌, List, [], ◌∷◌, ◌++◌, ◌<◌, ℕ, ℤ, pos, length, drop, get_or}
-use Rattle.std.proofs.Common.{Bool, true, false, cond, refl, ap, ◌∙◌, Option, None, Some, Ok, Err}
+use Rattle.std.proofs.Common.{Bool, true, false, cond, refl, ap, ◌∙◌, Option, None, Some, Err}
 use Rattle.std.specs.Prelude.{nat_lt, int_lt, filter, take_while, is_some, slice_get}
 use Rattle.std.specs.List.{list_any}
 use Rattle.std.proofs.lemmas.List.{drop_more}
@@ -52,11 +52,6 @@ pub second_found : (found : Option Pair) (pair : Pair) (rest all : List Pair) �
     → is_some found ≡ true → Err (Count pair.line) ≡ at_most_one all
 second_found None pair rest all is some = absurd (cc)
 second_found (Some first) pair rest all is some = ap at_most_one is
-
--- no more fields
-pub all_found : (found : Option Pair) (all : List Pair) → list_of found ++ [] ≡ all → Ok found ≡ at_most_one all
-all_found None all is = ap at_most_one is
-all_found (Some pair) all is = ap at_most_one is
 
 -- the place past the last pair
 pub last_end : (past : ℕ) (pairs : List Pair) (last : Pair) → Some last ≡ slice_get pairs (length pairs - 1)
