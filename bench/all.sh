@@ -4,8 +4,8 @@
 # usage: bench/all.sh [PART..]     the parts are the first words of PARTS below; without one, all
 # A part that is not asked for keeps what the page has of it; one that fails is named, and keeps it too. Needs the built
 # programs (or the launcher's toolchain, which builds them), python3, and what the scripts say at their heads. With all
-# parts it takes half an hour on a quiet machine. Other scripts of this folder are run by hand; gate.sh prints gate.txt.
-# The status is 1 where a part failed.
+# parts it takes half an hour on a quiet machine. Other scripts of this folder are run by hand; gate.txt has the
+# minutes of proofs that gate.sh prints. The status is 1 where a part failed.
 set -u
 top=$(CDPATH='' cd -- "$(dirname -- "$0")/.." && pwd)
 cd -- "$top" || exit 2
@@ -44,9 +44,11 @@ commit=$(git rev-parse --short=8 HEAD 2>/dev/null || echo unknown)
 git diff --quiet HEAD 2>/dev/null || commit="$commit with changes"
 model=$(sed -n 's/^model name[^:]*: //p' /proc/cpuinfo | head -n 1)
 printf '%s processors (%s), %s.\n' "$(nproc --all)" "$model" "$(date -u +%Y-%m-%d)" > "$out/head"
-# One call builds what is not built yet, so that no part is timed with a build.
-./tinmove > "$out/build" 2>&1
-[ $? -eq 125 ] && { cat "$out/build" >&2; exit 1; }
+# One call of each program builds what is not built yet, so that no part is timed with a build.
+for program in tinmove tinplaces tinledger; do
+    ./$program > "$out/build" 2>&1
+    [ $? -eq 125 ] && { cat "$out/build" >&2; exit 1; }
+done
 bad=0
 for part in "$@"; do
     row=$(printf '%s' "$PARTS" | grep "^$part|")

@@ -117,7 +117,9 @@ for _ in range(3):
     best = min(best, time.process_time() - start)
 print(best * 1e6)')
     # the file 'before' has the pieces and the microseconds of the row before
-    for _ in 1 2 3; do "$program" | paste -s -d ' ' -; done | sort -n -k 6 | head -n 1 | awk -v name="$1" -v json="$yardstick" '{
+    for _ in 1 2 3; do "$program" | paste -s -d ' ' -; done | sort -n -k 6 | head -n 1 | awk -v name="$1" -v json="$yardstick" '
+    NF != 6 { print "carry.sh: the program refuses " name > "/dev/stderr"; exit 1 }
+    {
         growth = "-"
         if ((getline last < "before") > 0) {
             split(last, was, " ")

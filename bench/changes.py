@@ -121,7 +121,7 @@ def measure(program, folder, name, tin):
         best = taken if best is None or taken < best else best
         peak = max(peak, used.ru_maxrss)
         if os.waitstatus_to_exitcode(status) not in (0, 1):
-            print("%s: status %d" % (name, os.waitstatus_to_exitcode(status)))
+            sys.exit("%s: status %d" % (name, os.waitstatus_to_exitcode(status)))
     found = [line for line in report.decode().splitlines() if line.startswith("changes")]
     return best, peak, found[0] if found else "no list of changes"
 

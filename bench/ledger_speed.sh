@@ -1,9 +1,9 @@
 #!/bin/sh
 # What a ledger in a file takes, beside Python's sqlite3 that does the same with the same tables, the same log and a commit for each
 # entered run and for each decision: scripts that enter runs of 100 pairs, decide on half of their pairs, and list a run. Prints a table of
-# processor time and of time on the clock, and of each the ratio; and what an opening takes of a ledger of that size.
+# processor time and of time on the clock, and of each the ratio; then the sizes of both files.
 # usage: bench/ledger_speed.sh [PROGRAM [RUNS]]     the built program, else the launcher builds it; 1,000 runs
-# A decision waits for the disk: 100,000 of them may take some minutes. No part of the gate.
+# A decision waits for the disk: 50,000 of them may take some minutes. No part of the gate.
 set -eu
 top=$(CDPATH='' cd -- "$(dirname -- "$0")/.." && pwd)
 program=${1:-}

@@ -13,7 +13,7 @@ set -eu
 top=$(cd -- "$(dirname -- "$0")/.." && pwd)
 program=${1:-} count=${2:-1000000}
 if [ -z "$program" ]; then
-    "$top/tinmove" --version >/dev/null
+    "$top/tinmove" make 1 >/dev/null
     program=$top/crates/tinmove/out/tinmove
 fi
 case $program in /*) ;; *) program=$PWD/$program ;; esac

@@ -71,7 +71,10 @@ compare() {
     printf '%s\n' "$(basename "$1")"
     ln -sf "$1" "$work/made.json"
     (cd "$work" && python3 -c 'import resource, subprocess, sys
-print(subprocess.run([sys.argv[1]], stdout=subprocess.PIPE, text=True).stdout, end="")
+done = subprocess.run([sys.argv[1]], stdout=subprocess.PIPE, text=True)
+print(done.stdout, end="")
+if done.returncode or not done.stdout:
+    sys.exit("tin_file.sh: the program refuses the file: status %d" % done.returncode)
 print("most memory: %d KiB" % resource.getrusage(resource.RUSAGE_CHILDREN).ru_maxrss)' "$program")
     python3 "$top/bench/json_text.py" time "$1"
 }

@@ -10,6 +10,7 @@ import json
 import math
 import os
 import resource
+import signal
 import subprocess
 import sys
 import tempfile
@@ -114,6 +115,8 @@ for mode, name, program, words in RUNS:
                              preexec_fn=lambda: resource.setrlimit(resource.RLIMIT_CPU, (limit, limit)))
     _, status, used = os.wait4(child.pid, 0)
     seconds, code = used.ru_utime + used.ru_stime, os.waitstatus_to_exitcode(status)
-    over = code < 0
+    over = code in (-signal.SIGXCPU, -signal.SIGKILL)
+    if code < 0 and not over:
+        sys.exit("worst.py: %s, %s: signal %d" % (mode, name, -code))
     print("| `%s` | %s | %d | %s%.2f | %s%.2f | %s |" % (mode, name, most, "over " * over, seconds, "over " * over,
           seconds / yardstick, "" if over else code), flush=True)

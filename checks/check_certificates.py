@@ -3,9 +3,10 @@
 
 usage: checks/check_certificates.py [N [SEED [PROGRAM]]]     N 5,000, SEED 1, PROGRAM crates/tinmove/out/tinmove
 First come the certificates of the tests (crates/run_tests/src), with each change of one byte of a certificate and of a
-written layer, and a 9 in front of each number. Then come N mutations of these and of layers that are made by chance, of
-all kinds, with and without heights, over a grid with gaps: of the certificate most often, of the written layer, of the
-source and of the triangulation. Of the last two the status is compared, of all others the line. No drawings.
+written layer, and a 9 in front of each digit of a certificate. Then come N mutations of these and of layers that are
+made by chance, of all kinds, with and without heights, over a grid with gaps: of the certificate most often, of the
+written layer, of the source and of the triangulation. Of the last two the status is compared, of all others the line.
+No drawings.
 Prints each case that is answered otherwise, with its files, how many cases had which answer, and ends with 1 where one
 was answered otherwise. No part of the gate.
 """

@@ -7,8 +7,11 @@
 README lists each crate of crates.txt and no other; each crate has a README; links, their places in a page, and files
 that are named exist, as `docs/guide.md` or `runs/src/lines.rt`, and scripts that comments of the code name; names in
 the code spans of README and docs/ are somewhere in the sources; prose breaks at 100 columns (wrap_docs.py breaks it),
-except where a script writes it; below cert_check there is no grid, index or walk, as its README says; docs/testing.md counts the tests and the must-fail
-edits. documents.txt has the exceptions.
+except where a script writes it, and ends in no blank or empty line; below cert_check there is no grid, index or walk,
+as its README says; docs/testing.md counts the tests and the must-fail edits. In the README of a crate the names of a
+row's first cell are in the code of that crate, and all that look like a call, a type, a definition or a lemma in the
+code of some crate; of `Status::code` some file has the type with the call; `specs/Values.antt` is a file of the crate,
+and `Values.antt` of some crate. documents.txt has the exceptions.
 """
 
 import re
@@ -17,14 +20,20 @@ from collections.abc import Iterator
 from functools import lru_cache
 from pathlib import Path
 
-from sources import Words, crates, enter_top, exceptions
+from sources import Words, code_of, crates, enter_top, exceptions, files
 
 MOST_COLUMNS = 100
-LIBRARY = {"clap_builder", "get_flag", "get_one", "sync_all"}  # what the toolchain's library and its ports call so
+LIBRARY = {"clap_builder", "get_flag", "get_one", "or_from", "sync_all"}  # what the toolchain's library and its ports call so
 SEARCHES = ("cell_grid", "tin_index", "seg_walk")  # a receiver checks a certificate without these
 FILE = re.compile(r"\b(?:bench|checks|rows|recipes|tools|examples|docs|crates)/[\w./-]+\.\w+")
 PART = re.compile(r"(\w+)/(?:src|specs|proofs|must-fail)\b[\w./-]*")  # a file or folder of a crate
 NAME = re.compile(r"(?:Is|Are|Has|Have|Do|Does)[A-Z]\w+|[a-z]+(?:_[a-z]+)+")  # IsImage, image_of
+SPAN = re.compile(r"`([^`]+)`")
+WORD = re.compile(r"[^\W\d]\w+")
+DECLARED = re.compile(r"\b(?:[A-Z][a-z]\w*|[a-z]\w*_\w+)")  # IsImage, Keeper, image_of
+METHOD = re.compile(r"\b([A-Z]\w+)::(\w+)")  # Status::code
+TERM = re.compile(r"(?!--)[^\s\"'`./\\{}()\[\],:;]+")  # a name of specs or proofs, as *ℤ_assoc or sum-cons
+FILE_OF_CRATE = re.compile(r"(?:src|specs|proofs|must-fail|data)/[\w./-]*|\w+\.(?:antt|rt)")
 
 
 def lines_of(page: Path) -> Iterator[tuple[int, str]]:
@@ -68,14 +77,63 @@ def lists_faults() -> Iterator[str]:
     yield from (f"crates.txt: {it} is below cert_check" for it in SEARCHES if it in below)
 
 
+@lru_cache(maxsize=None)
+def names_of(crate: str) -> frozenset[str]:
+    """Gives the names in the code of a crate, and those of its files."""
+    found = {crate}
+    for path in (it for part in ("src", "specs", "proofs") for it in files(crate, part)):
+        found |= {path.stem, path.name, *WORD.findall(code_of(path)), *TERM.findall(code_of(path))}
+    return frozenset(found)
+
+
+@lru_cache(maxsize=None)
+def names_of_all() -> frozenset[str]:
+    return frozenset(LIBRARY).union(*(names_of(it) for it in crates()[0]))
+
+
+@lru_cache(maxsize=None)
+def has_method(kind: str, call: str) -> bool:
+    """Whether a file of some crate has the type or the trait, and the call, or the case of an enum."""
+    kinds, calls = re.compile(rf"\b(?:impl|trait|enum)\b[^;{{]*\b{kind}\b"), re.compile(rf"(?m)\bfn {call}\b|^ +{call}\b")
+    return any(kinds.search(code_of(it)) and calls.search(code_of(it)) for crate in crates()[0] for it in files(crate, "src"))
+
+
+def is_file(crate: str, span: str) -> bool:
+    """Whether a crate has the file or folder `specs/Values.antt`, or some crate the file `Values.antt`."""
+    return any(Path("crates", crate, span + end).exists() for end in ("", ".antt")) if "/" in span else span in names_of_all()
+
+
+def names_in(span: str) -> Iterator[str]:
+    """Gives the words that look like a call, a type or a definition, and the whole span where it is a lemma."""
+    yield from DECLARED.findall(span)
+    if TERM.fullmatch(span) and (re.search(r"\w-\w", span) or not span.isascii()):
+        yield span
+
+
+def crate_faults(crate: str, line: str) -> Iterator[str]:
+    """Asks whether the names that a line of a crate's README has between backticks are in the code."""
+    first = line.split("|")[1] if line.startswith("| ") else ""
+    for span in SPAN.findall(first):
+        if not FILE_OF_CRATE.fullmatch(span):
+            yield from (f"{crate} has nothing called {it}" for it in WORD.findall(span.partition("(")[0]) if it not in names_of(crate))
+    for span in SPAN.findall(line):
+        if FILE_OF_CRATE.fullmatch(span):
+            yield from [] if is_file(crate, span) else [f"no file {span}"]
+        elif "/" not in span:
+            yield from (f"nothing in the code is called {it}" for it in dict.fromkeys(names_in(span)) if it not in names_of_all())
+            yield from (f"no file has {kind} with {call}" for kind, call in METHOD.findall(span) if not has_method(kind, call))
+
+
 def page_faults(page: Path, names: set[str]) -> Iterator[str]:
     is_written = False
     for number, line in lines_of(page):
         is_written = line.startswith("<!-- begin ") or is_written and not line.startswith("<!-- end ")
         is_wide = len(line) > MOST_COLUMNS and not is_written and not line.startswith(("|", "#", "<!--"))
         found = [f"{len(line)} columns"] if is_wide else []
+        found += ["a blank at the end"] if line.endswith(" ") else []
         found += link_faults(page, line)
-        for span in re.findall(r"`([^`]+)`", line):
+        found += crate_faults(page.parts[1], line) if page.parts[0] == "crates" else []
+        for span in SPAN.findall(line):
             if FILE.fullmatch(span) and not Path(span).exists():
                 found.append(f"no file {span}")
             elif (part := PART.fullmatch(span)) and part[1] in names and not any(Path("crates", span + end).exists() for end in ("", ".antt")):
@@ -83,6 +141,8 @@ def page_faults(page: Path, names: set[str]) -> Iterator[str]:
             elif page.parts[0] != "crates" and NAME.fullmatch(span) and span not in names:
                 found.append(f"nothing in the sources is called {span}")
         yield from (f"{page}:{number}: {it}" for it in found)
+    if page.read_text(encoding="utf-8").endswith("\n\n"):
+        yield f"{page}: an empty last line"
 
 
 def comment_faults(source: Path) -> Iterator[str]:

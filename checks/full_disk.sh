@@ -15,9 +15,9 @@ if [ -z "$program" ]; then
     "$top/tinmove" make 1 > /dev/null
 fi
 folder=$(mktemp -d)
+trap 'umount "$folder/disk" 2> /dev/null || true; rm -rf "$folder"' EXIT
 mkdir "$folder/disk"
 mount -t tmpfs -o size=1m tmpfs "$folder/disk"
-trap 'umount "$folder/disk"; rm -rf "$folder"' EXIT
 cd "$folder"
 cp "$top/crates/tinmove/data/u.json" .
 python3 - "$program" <<'END'

@@ -98,6 +98,11 @@ def minutes() -> dict[str, float]:
     return {crate: float(time) for crate, time in re.findall(r"\b([a-z]\w+) +(\d+\.\d)\b", gate)}
 
 
+def counted(number: float, word: str) -> str:
+    """Gives a whole number of what the word names, as '1 minute' or '2 minutes'."""
+    return f"{number:.0f} {word}" + ("" if f"{number:.0f}" == "1" else "s")
+
+
 def above(lines: Graph, changed: Iterable[str]) -> list[str]:
     """Gives the crates that are proved again where these change: they, and all whose lines reach one."""
     found = set(changed)
@@ -115,7 +120,7 @@ def costs(lines: Graph) -> str:
         again = above(lines, [crate])
         time, unknown = sum(took.get(it, 0) for it in again), sum(it not in took for it in again)
         more = f" ({unknown} not measured yet)" if unknown else ""
-        rows.append(f"- {what}, from `{crate}` on: {len(again)} crates, {time:.0f} minutes of proof{more}")
+        rows.append(f"- {what}, from `{crate}` on: {counted(len(again), 'crate')}, {counted(time, 'minute')} of proof{more}")
     return "\n".join(rows)
 
 
@@ -148,7 +153,7 @@ def main() -> int:
         again = above(lines, asked.above)
         for it in again:
             print(f"{it:16} {took[it]:5.1f}" if it in took else f"{it:16} not measured")
-        print(f"{len(again)} crates, {sum(took.get(it, 0) for it in again):.0f} minutes")
+        print(f"{counted(len(again), 'crate')}, {counted(sum(took.get(it, 0) for it in again), 'minute')}")
         return 0
     parts = {crate: named(crate) for crate in lines}
     places = {crate: at for at, crate in enumerate(lines)}

@@ -1,13 +1,13 @@
 #!/bin/sh
-# Whether a run ends well when memory is refused: of six small runs (a point, a line and a point,
-# GeoJSON, a drawing, two layers, and a made map), and with PLACES of a run of that program,
-# 'tinplaces', over three layers, each call of the allocator is refused once, one a run. Prints a line
-# for each run: how many growths it has, and with how many of them refused it ended with want of
-# memory (8), with a read fault (6) or a write fault (7) because a call of the system found no memory,
-# or as if nothing had been refused (what is only said on standard error). Ends with 1 where a run
-# ended otherwise, printed another line than its status has, made a layer that is neither missing nor
-# whole, or left a file beside.
-# usage: checks/growths.sh [PROGRAM [PLACES]]
+# Whether a run ends well when memory is refused: of seven small runs (a point, a line and a point,
+# GeoJSON, a drawing, two layers, a made map, and tinplaces over three layers), each call of the
+# allocator is refused once, one a run. Prints a line for each run: how many growths it has, and with
+# how many of them refused it ended with want of memory (8), with a read fault (6) or a write fault (7)
+# because a call of the system found no memory, or as if nothing had been refused (what is only said on
+# standard error). Ends with 1 where a run ended otherwise, printed another line than its status has,
+# made a layer that is neither missing nor whole, or left a file beside.
+# usage: checks/growths.sh [PROGRAM [PLACES]]     the built programs, else the launchers build them; with
+#                                                 PROGRAM alone the run of tinplaces is left out
 # No part of the gate. It takes a C compiler, and a program that calls malloc of the GNU C library.
 set -eu
 top=$(CDPATH='' cd -- "$(dirname -- "$0")/.." && pwd)
@@ -16,6 +16,8 @@ places=${2:-}
 if [ -z "$program" ]; then
     program=$top/crates/tinmove/out/tinmove
     "$top/tinmove" make 1 > /dev/null
+    places=$top/crates/tinplaces/out/tinplaces
+    "$top/tinplaces" --tin none none.wkt > /dev/null 2>&1 || [ $? -eq 6 ]
 fi
 folder=$(mktemp -d)
 trap 'rm -rf "$folder"' EXIT

@@ -10,9 +10,11 @@ differ() { printf 'differs: %s\n' "$1"; bad=1; }
 plain() { tr -s ' \n' ' ' | sed 's/^ //; s/ $//'; }
 page() { MANWIDTH=500 man -l "$top/recipes/$1.1" 2>/dev/null | col -bx; }
 options() { grep -o -- '--[a-z-]*[a-z]' | sort -u; }
-statuses() { # the last exit status, a help and its man page: each status begins in the same way
-    local status said
-    for status in $(seq 0 "$1"); do
+statuses() { # the exit statuses, a help and its man page: each status begins in the same way
+    local found status said
+    found=$(sed -n 's/^  \([0-9][0-9]*\)  *[^ ].*/\1/p' <<<"$2" | plain)
+    [ "$found" = "$1" ] || differ "the statuses of the help: $found"
+    for status in $found; do
         said=$(sed -n "s/^  $status  *//p" <<<"$2" | cut -d, -f1 | cut -d';' -f1)
         grep -qi -- "$said" <<<"$3" || differ "status $status of the man page: $said"
     done
@@ -45,7 +47,7 @@ done
 # The version, and each exit status, which begin in the same way.
 version=$("$top/tinmove" --version)
 grep -q "\"$version\"" "$top/recipes/tinmove.1" || differ "the version of the man page"
-statuses 10 "$help" "$man"
+statuses '0 1 2 3 4 5 6 7 8 9 10' "$help" "$man"
 
 # The same of tinplaces, which has no modes. Its completion asks it for its options: what is offered
 # after --, as bash asks for it.
@@ -60,7 +62,7 @@ man=$(page tinplaces)
 [ "$(options <<<"$help")" = "$(options <<<"$man")" ] || differ "the options of the man page of tinplaces"
 [ "$(options <<<"$help")" = "$(offered "$top/tinplaces")" ] || differ "the options of the completion of tinplaces"
 grep -q "\"$("$top/tinplaces" --version)\"" "$top/recipes/tinplaces.1" || differ "the version of the man page of tinplaces"
-statuses 9 "$help" "$man"
+statuses '0 1 2 3 4 5 6 7 8 9' "$help" "$man"
 
 # The same of tinledger, whose lines of a script are in the man page too.
 help=$("$top/tinledger" --help)
@@ -68,9 +70,12 @@ man=$(page tinledger)
 [ "$(options <<<"$help")" = "$(options <<<"$man")" ] || differ "the options of the man page of tinledger"
 [ "$(options <<<"$help")" = "$(grep -o -- '--[a-z][a-z-]*' "$top/recipes/tinledger.bash" | sort -u)" ] || differ "the options of the completion of tinledger"
 grep -q "\"$("$top/tinledger" --version)\"" "$top/recipes/tinledger.1" || differ "the version of the man page of tinledger"
-statuses 10 "$help" "$man"
+statuses '0 2 3 4 6 7 8 9 10' "$help" "$man"
+count=0
 while read -r line; do
+    count=$((count + 1))
     grep -qF -- "$line" <<<"$man" || differ "the line '$line' of the man page of tinledger"
 done < <(sed -n 's/^  \(enter\|decide\|list\|clear\) \([A-Z]*[A-Za-z. ]*[A-Za-z.]\)   *.*/\1 \2/p; s/^  \(list\|clear\) RUN  .*/\1 RUN/p' <<<"$help" | sort -u)
+[ "$count" -gt 0 ] || differ "the lines of a script in the help of tinledger"
 [ "$bad" -eq 0 ] && echo 'the help is the same everywhere'
 exit $bad

@@ -231,6 +231,8 @@ for megabytes in range(8, 66, 2):
         fail(f"rows after status {status} with {megabytes} MB are those of no front of the script")
     else:
         ledger = reached[-1]
+if counts[8] == 0:
+    fail("no run ended with status 8")
 print("memory:", dict(sorted(counts.items())))
 
 # ---- killed at 200 moments of a campaign of 50 scripts

@@ -1,8 +1,8 @@
 #!/usr/bin/env bash
 # Whether docs/messages.md has every line that the program prints, and no other.
 # The lines of the document are those between backticks in the first column of its tables, and in the
-# columns Found and Helps. The texts of the program are the string literals of the files below, outside of contracts, comments and tests,
-# and those of the launcher.
+# columns Found and Helps. The texts of the program are the string literals of the files below, outside
+# of contracts, comments and tests, and those of the launcher. A file that is missing is an error.
 # Each literal must be part of a line of the document, and each line must be made of literals, with
 # numbers and names between them. The last line is 'docs/messages.md has every line'; the status is
 # 1 where it has not.
@@ -10,15 +10,22 @@ set -eu
 cd -- "$(dirname -- "$0")/.."
 python3 - <<'END'
 import glob
+import os
 import re
 import sys
 
-SOURCES = """lines corner_lines layer_lines outside_lines refusal report layer_tables tin_tables refusal_tables sights remark_lines file_lines flaw_lines stray_lines step_lines checks verifications heights warnings remarks hints told errors""".split()
-files = [it for name in SOURCES for it in glob.glob(f"crates/*/src/{name}.rt")]
-files = [it for it in files if not it.startswith(("crates/meet_rel/", "crates/report_text/src/lines"))]
-files += [f"crates/report_text/src/{name}.rt" for name in ("report_texts", "side_texts", "field_texts")]
-files += ["crates/ledger_runs/src/refusals.rt", "crates/ledger_runs/src/reply_lines.rt", "crates/tinledger/src/main.rt", "crates/tinledger/src/notes.rt"]
-files += ["crates/run_notes/src/faulty_triangles.rt"]
+SOURCES = """
+check_mode/checks height_mode/heights ledger_remarks/remark_lines ledger_runs/refusals ledger_runs/reply_lines
+migrate_mode/report remarks/corner_lines remarks/file_lines remarks/flaw_lines remarks/layer_tables
+remarks/refusal_tables remarks/remark_lines remarks/sights remarks/stray_lines remarks/tin_tables
+report_text/field_texts report_text/report_texts report_text/side_texts run_notes/faulty_triangles run_notes/warnings
+run_steps/lines run_steps/step_lines runs/layer_lines runs/lines runs/refusal tinledger/main tinledger/notes
+verify_mode/verifications
+""".split()
+files = ["crates/{}/src/{}.rt".format(*it.split("/")) for it in SOURCES]
+lost = [it for it in files if not os.path.exists(it)]
+if lost:
+    sys.exit(f"no file {', '.join(lost)}")
 
 def literals_of(text):
     text = re.sub(r"\\\n\s*", "", text)  # a literal that goes on in the next line

@@ -18,8 +18,7 @@ trap 'chmod -R u+w "$folder"; rm -rf "$folder"' EXIT
 cd "$folder" || exit 1
 bad=0 count=0
 
-# Whether $program with the words ends with this status, and prints these parts on standard error, in
-# this order.
+# Whether $program with the words ends with this status, and prints these parts on standard error.
 says() {
     local status=$1 words=() part
     shift

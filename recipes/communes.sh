@@ -7,8 +7,9 @@
 # has, is removed before. With --again a commune stays as it is where its status was 0 or 1 and its
 # layers, the triangulation and the program are not newer: so an interrupted call goes on. The last lines
 # name each refused commune and count how the runs ended. The status is the greatest of the runs: 0, 1
-# where only changes were listed. Needs find and xargs with -0 and -P (Debian: findutils) and tinmove, or
-# the program that TINMOVE names. For a country, with what meets across borders: recipes/country.
+# where only changes were listed. Neither of FROM and TO may hold the other. Needs find and xargs with -0
+# and -P, realpath with -m (Debian: findutils, coreutils) and tinmove, or the program that TINMOVE names.
+# For a country, with what meets across borders: recipes/country.
 set -eu
 again=
 if [ "${1-}" = --again ]; then again=1; shift; fi
@@ -16,14 +17,15 @@ if [ "${1-}" = --again ]; then again=1; shift; fi
 tin=$1 from=$2 to=$3
 program=$(command -v -- "${TINMOVE:-tinmove}") || { echo "communes.sh: there is no program ${TINMOVE:-tinmove}" >&2; exit 2; }
 [ -d "$from" ] || { echo "communes.sh: there is no folder $from" >&2; exit 2; }
-mkdir -p -- "$to"
 # Each run is in the folder of its commune, whose name is then in no word that the program reads.
 absolute() { (CDPATH='' cd -- "$1" && pwd); }
-from=$(absolute "$from")
-to=$(absolute "$to")
+from=$(realpath -- "$from")
+to=$(realpath -m -- "$to")
 tin=$(absolute "$(dirname -- "$tin")")/$(basename -- "$tin")
 case $program in */*) program=$(absolute "$(dirname -- "$program")")/$(basename -- "$program") ;; esac
 case $from/ in "$to"/*) echo "communes.sh: TO may not hold FROM" >&2; exit 2 ;; esac
+case $to/ in "$from"/*) echo "communes.sh: FROM may not hold TO" >&2; exit 2 ;; esac
+mkdir -p -- "$to"
 export again tin program to
 
 # What FROM no longer has goes. Only folders that a call of this script made have a status.txt.

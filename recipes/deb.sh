@@ -65,7 +65,7 @@ done
 } >"$doc/copyright"
 {
     printf 'tinmove (%s) unstable; urgency=medium\n\n' "$version"
-    printf '  * Built of the commit %s.\n\n' "$(git -C "$top" log -1 --format=%h 2>/dev/null || echo unknown)"
+    printf '  * Packed at the commit %s.\n\n' "$(git -C "$top" log -1 --format=%h 2>/dev/null || echo unknown)"
     printf ' -- %s  %s\n' "$maintainer" "$date"
 } | gzip -9n >"$doc/changelog.gz"
 # The glibc that both programs ask for: the greatest version of their symbols.

@@ -32,7 +32,11 @@ trap 'exit 130' INT
 trap 'exit 143' TERM
 
 # Has the ledger obey the script of the room; its replies. What it says on standard error is handed on.
-obey() { (cd -- "$room" && exec "$ledger" "$db" script) >"$room/replies" || refuse "$(head -n 1 "$room/replies")" "$?"; }
+obey() {
+    ended=0
+    (cd -- "$room" && exec "$ledger" "$db" script) >"$room/replies" || ended=$?
+    [ "$ended" -eq 0 ] || refuse "$(head -n 1 "$room/replies")" "$ended"
+}
 run_of() { # the number of the run of a folder
     number=$(cat -- "$1/run.txt" 2>/dev/null) || refuse "$1 has no run: carry it first" 6
     case $number in '' | *[!0-9]*) refuse "$1/run.txt has no number of a run" 6 ;; esac

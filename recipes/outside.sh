@@ -38,5 +38,6 @@ ogr2ogr -q -f GeoJSON -lco COORDINATE_PRECISION=3 "$folder/outside.geojson" "$fo
 # Of no features GDAL writes no file, or an empty one.
 [ -s "$folder/outside.geojson" ] || echo '{ "type": "FeatureCollection", "features": [] }' >"$folder/outside.geojson"
 count=$(jq '.features | length' "$folder/outside.geojson")
-cp -- "$folder/outside.geojson" "$result.part" && mv -- "$result.part" "$result"
+{ cp -- "$folder/outside.geojson" "$result.part" && mv -- "$result.part" "$result"; } ||
+    { rm -f -- "$result.part"; refuse "$result: it cannot be written"; }
 echo "features not wholly inside: $count"

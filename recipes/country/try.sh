@@ -49,7 +49,7 @@ echo '== a second run'
 touch mark
 wanted 'the status' "$(ran whole)" 0
 wanted 'the files that it wrote' "$(find whole -newer mark -type f ! -path '*/.snakemake/*')" ''
-grep -q 'Nothing to be done' whole.log
+grep -q 'Nothing to be done' whole.log || { echo 'FAILED: snakemake does not say that nothing is to be done'; exit 1; }
 
 echo '== runs that are killed'
 # What is there of a kind of file.
