@@ -1,5 +1,5 @@
 -- A line about bytes is that of a refusal for bytes, and no reply begins so.
-use Rattle.std.proofs.Common.{◌≡◌, ◌≢◌, ◌⊎◌, inl, inr, ℕ, zero, suc, ◌+◌, List, [], ◌∷◌, ◌++◌, length, take, codes}
+use Rattle.std.proofs.Common.{◌≡◌, ◌≢◌, ◌⊎◌, inl, inr, ℕ, zero, suc, List, [], ◌∷◌, ◌++◌, length, take, codes}
 use Rattle.std.proofs.Common.{Option, None, Some, IfSome, refl, sym, ◌∙◌, ap, subst, arith}
 use Rattle.std.proofs.Math.Seq.{take-length}
 use Rattle.plain_laws.proofs.Lists.{same_first, same_rest}
@@ -16,7 +16,7 @@ use Rattle.ledger_runs.specs.Refusals.{status_of, line_of, limit_front, reports_
 use Rattle.ledger_runs.specs.ReplyText.{replies_text}
 use Rattle.ledger_runs.specs.Causes.{HasPassed}
 use Rattle.ledger_runs.specs.Ends.{IsFrontOf, Tells, KeepsLimits}
-use Rattle.ledger_runs.specs.InsideRuns.{AreReplies}
+use Rattle.ledger_runs.specs.HandedOut.{AreReplies}
 use Rattle.ledger_runs.proofs.RunEnds.{not-write}
 
 -- at some place the text has another byte than this beginning, or it is shorter

@@ -16,7 +16,7 @@ use Rattle.ledger_runs.specs.Outcome.{IsScript, IsRead, script_unread, script_lo
 use Rattle.ledger_runs.specs.InsideSteps.{ScriptFails, ReadingFails, ScriptReadingFails}
 use Rattle.ledger_runs.specs.Lines.{lines_of, AreAsked}
 use Rattle.ledger_runs.specs.InsideEntries.{TextFails, LayersFail, EntryFails, CommandsFail}
-use Rattle.ledger_runs.specs.InsideRuns.{PreparingFails}
+use Rattle.ledger_runs.specs.HandedOut.{PreparingFails}
 
 script-fails : (unread : List ℕ → Type 0) (words : List (List ℕ)) (files : Files) (name : List ℕ)
     (refusal : LedgerRefusal) → AreNames words name → ScriptFails unread files name refusal

@@ -13,7 +13,7 @@ use Rattle.ledger_runs.specs.Refusals.{status_of, line_of}
 use Rattle.ledger_runs.specs.ReplyText.{replies_text}
 use Rattle.ledger_runs.specs.Outcome.{IsPrepared}
 use Rattle.ledger_runs.specs.Ends.{IsUnread, IsFrontOf, Says, Ends, done, refused, keeper_failed, no_memory, no_memory_after, made_whole, write_failed}
-use Rattle.ledger_runs.specs.InsideRuns.{PreparingFails, StopsAfter}
+use Rattle.ledger_runs.specs.HandedOut.{PreparingFails, StopsAfter}
 
 -- a run that says something makes it, or a write fails
 said-ends : (words : List (List ℕ)) (files : Files) (shelf_rose keeper_rose press_rose : Type 0)

@@ -1,8 +1,7 @@
 -- What the steps of a run do to the counts of the shelf and of the keeper.
-use Rattle.std.specs.Prelude.{◌≡◌, ◌≢◌, ◌⊎◌, ℕ, ◌+◌, ◌≤◌, List, Option, Result, OnOk, IfErr}
+use Rattle.std.specs.Prelude.{◌≡◌, ◌≢◌, ◌⊎◌, ℕ, ◌+◌, ◌≤◌, Option, None, Result, OnOk, IfErr}
 use Rattle.shelf_io.specs.Count.{Rose, count_after}
 use Rattle.shelf_io.specs.Files.{Files}
-use Rattle.shelf_io.specs.Load.{LacksName}
 use Rattle.ledger_core.specs.declared.faults.KeepFault.{KeepFault}
 use Rattle.ledger_core.specs.declared.faults.KeepFault.TheVariants.{Failed, NoMemory as KeepNoMemory}
 use Rattle.ledger_runs.specs.declared.refusals.LedgerRefusal.{LedgerRefusal}
@@ -12,17 +11,13 @@ use Rattle.ledger_runs.specs.declared.refusals.LedgerRefusal.TheVariants.{Keeper
 use Rattle.ledger_runs.specs.declared.status.LedgerStatus.TheVariants.{Read, Memory, Keeper}
 use Rattle.ledger_runs.specs.Refusals.{status_of}
 
--- a shelf states its files, and lacks one that is wanted
-abbrev pub LacksOne : Option Files → Type 0
-LacksOne files = (name : List ℕ) × LacksName files name
-
--- before the first command: a refusal for reading comes only where the shelf's count rose or a file is missing, all
--- else leaves the count as it was, and the keeper is no cause
+-- Before the first command. Where the shelf states no files a refusal for reading comes only where its count rose; where
+-- it does, the clause `err` says which one is missing. All else leaves the count as it was, and the keeper is no cause.
 pub record LeavesShelf {T : Type 0} (files : Option Files) (before now : ℕ) (result : Result T LedgerRefusal) : Type 0 where
   pub later : before ≤ now
   pub same : OnOk result (now ≡ before)
   pub other : IfErr result (λ refusal. status_of refusal ≢ Read → now ≡ before)
-  pub read : IfErr result (λ refusal. status_of refusal ≡ Read → Rose before now ⊎ LacksOne files)
+  pub read : IfErr result (λ refusal. status_of refusal ≡ Read → files ≡ None → Rose before now)
   pub no_keeper : IfErr result (λ refusal. status_of refusal ≢ Keeper)
 
 -- a refusal that has nothing to do with the outside

@@ -7,7 +7,9 @@ pub mod Lines
 pub mod Entries
 pub mod ReplyText
 pub mod Outcome
+pub mod MissingFiles
 pub mod Ends
+pub mod HandedOut
 pub mod InsideSteps
 pub mod InsideEntries
 pub mod InsideRuns

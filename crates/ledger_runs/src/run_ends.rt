@@ -1,19 +1,21 @@
 //! The whole program over what it is handed.
 
 ghost use Rattle.std.specs.Prelude.{◌≡◌, ◌≢◌, ◌⊎◌, ◌<◌, ◌≤◌, ◌+◌, [], ◌∷◌, List, length, map, string_bytes, ℕ, ◌↔◌, IsTrue};
-ghost use Rattle.std.specs.Prelude.{IfOk, IfErr, IfSome, IfNone, false, codes};
+ghost use Rattle.std.specs.Prelude.{IfOk, IfErr, IfSome, false, codes};
 ghost use Rattle.shelf_io.specs.Count.{Rose};
 ghost use Rattle.ledger_core.specs.declared.limits.TheConstants.{MOST_COMMANDS};
 ghost use Rattle.ledger_core.specs.declared.commands.Command.{Command as Asks};
 ghost use Rattle.ledger_core.specs.Histories.{StandsFor};
-ghost use Rattle.ledger_runs.specs.Causes.{LeavesShelf, LeavesKeeper, LacksOne, IsInner, HasPassed, refusal_by};
+ghost use Rattle.ledger_runs.specs.Causes.{LeavesShelf, LeavesKeeper, IsInner, HasPassed, refusal_by};
 ghost use Rattle.ledger_runs.specs.declared.commands.TheConstants.{MOST_REPORTS};
 ghost use Rattle.ledger_runs.specs.declared.refusals.LedgerRefusal.TheVariants.{Words};
 ghost use Rattle.ledger_runs.specs.Words.{IsName, AreNames};
 ghost use Rattle.ledger_runs.specs.Refusals.{line_of, status_of};
 ghost use Rattle.ledger_runs.specs.Outcome.{IsPrepared};
 ghost use Rattle.ledger_runs.specs.Ends.{IsUnread, IsFrontOf, Ends, KeepsLimits};
-ghost use Rattle.ledger_runs.specs.InsideRuns.{NamesFail, PreparingFails, AreReplies, ObeysAll};
+ghost use Rattle.ledger_runs.specs.MissingFiles.{LacksPrinted};
+ghost use Rattle.ledger_runs.specs.HandedOut.{HandsOut, run_counts, NamesFail, PreparingFails, IsStop, AreReplies};
+ghost use Rattle.ledger_runs.specs.InsideRuns.{ObeysAll};
 
 use crate::commands::commands_of;
 use crate::reply_lines::replies_text;
@@ -96,6 +98,7 @@ fn obey_commands<K: Keeper>(
     requires { length commands.now < MOST_COMMANDS }
     ensures faults { LeavesKeeper (K.faults keeper.old) (K.faults keeper.new) result }
     ensures form { IfOk result (λ text. AreReplies text.items) }
+    ensures stop { IfErr result (IsStop (K.faults keeper.old) (K.faults keeper.new) (length commands.now)) }
     ensures obeyed { (history : List Asks) → StandsFor (K.kept keeper.old) history → ObeysAll history commands.now
         (K.kept keeper.new) result }
 {
@@ -145,12 +148,13 @@ fn refuse<P: Press>(press: &mut P, refusal: LedgerRefusal) -> LedgerStatus
     say(press, line.as_bytes(), refusal.status())
 }
 
-/// How a run ended, and why nothing was obeyed, or not all, where that is so.
+/// How a run ended, and why no replies were printed, where it was refused or stopped.
 #[derive(Clone, Copy)]
 pub struct LedgerEnd {
     /// How it ended.
     pub status: LedgerStatus,
-    /// The refusal whose line was printed, or could not be printed: then the status is `Write`.
+    /// Why it was refused or stopped. Its line was printed, or could not be printed whole: then the status is `Write`.
+    /// Without it replies were printed, or could not be printed whole.
     pub refusal: Option<LedgerRefusal>,
 }
 
@@ -178,7 +182,8 @@ pub fn run_to_end<S: Shelf, P: Press, K: Keeper>(
         → (result.status ≡ LedgerStatus.Words) ⊎ (result.status ≡ LedgerStatus.Write) }
     ensures write { result.status ≡ LedgerStatus.Write → Rose (P.faults press.old) (P.faults press.new) }
     ensures keeper { result.status ≡ LedgerStatus.Keeper → Rose (K.faults keeper.old) (K.faults keeper.new) }
-    ensures read { result.status ≡ LedgerStatus.Read → Rose (S.faults shelf.old) (S.faults shelf.new) ⊎ LacksOne (S.files shelf.old) }
+    ensures read { result.status ≡ LedgerStatus.Read → Rose (S.faults shelf.old) (S.faults shelf.new)
+        ⊎ LacksPrinted (map string_bytes words.now) (S.files shelf.old) (P.made press.new) }
     ensures limit { IfSome (P.made press.new) (KeepsLimits (S.given shelf.old) (S.given shelf.new)) }
 
     // Every other status leaves the counts of faults as they were.
@@ -190,12 +195,12 @@ pub fn run_to_end<S: Shelf, P: Press, K: Keeper>(
     // Every other status leaves no file at hand.
     ensures at_hand { result.status ≢ LedgerStatus.Write → P.at_hand press.new ≡ false }
 
-    // The refusal is the one whose line was printed, or whose line could not be printed. Where there is none, nothing
-    // was refused.
-    ensures refusal { IfSome result.refusal (λ refusal. (result.status ≡ status_of refusal) ⊎ (result.status ≡ LedgerStatus.Write)) }
-    ensures printed { IfSome result.refusal (λ refusal. result.status ≢ LedgerStatus.Write → IfSome (P.made press.new)
-        (λ made. made ≡ (codes "-", line_of refusal) ∷ [])) }
-    ensures none { IfNone result.refusal ((result.status ≡ LedgerStatus.Done) ⊎ (result.status ≡ LedgerStatus.Write)) }
+    // Stated or not, a refusal that is handed out came, also where its line could not be printed whole. Where there is
+    // none, what is printed is of replies, and where the keeper stood for a history of those to all commands.
+    ensures handed { HandsOut (map string_bytes words.now) (S.files shelf.old)
+        (run_counts (S.faults shelf.old) (S.faults shelf.new) (S.given shelf.old) (S.given shelf.new)
+        (K.faults keeper.old) (K.faults keeper.new))
+        (K.kept keeper.old) (K.kept keeper.new) result.status (P.made press.new) result.refusal }
 {
     match prepare(alloc, words, shelf) {
         Ok(commands) => match obey_commands(alloc, keeper, commands.as_slice()) {
@@ -203,9 +208,9 @@ pub fn run_to_end<S: Shelf, P: Press, K: Keeper>(
                 status: say(press, text.as_slice(), LedgerStatus::Done),
                 refusal: None,
             },
-            Err(refusal) => LedgerEnd {
-                status: refuse(press, refusal),
-                refusal: Some(refusal),
+            Err(stop) => LedgerEnd {
+                status: refuse(press, stop),
+                refusal: Some(stop),
             },
         },
         Err(refusal) => LedgerEnd {
@@ -238,7 +243,8 @@ pub fn run_ledger<S: Shelf, P: Press, K: Keeper>(
         → (result ≡ LedgerStatus.Words) ⊎ (result ≡ LedgerStatus.Write) }
     ensures write { result ≡ LedgerStatus.Write → Rose (P.faults press.old) (P.faults press.new) }
     ensures keeper { result ≡ LedgerStatus.Keeper → Rose (K.faults keeper.old) (K.faults keeper.new) }
-    ensures read { result ≡ LedgerStatus.Read → Rose (S.faults shelf.old) (S.faults shelf.new) ⊎ LacksOne (S.files shelf.old) }
+    ensures read { result ≡ LedgerStatus.Read → Rose (S.faults shelf.old) (S.faults shelf.new)
+        ⊎ LacksPrinted (map string_bytes words.now) (S.files shelf.old) (P.made press.new) }
     ensures limit { IfSome (P.made press.new) (KeepsLimits (S.given shelf.old) (S.given shelf.new)) }
 
     // Every other status leaves the counts of faults as they were.
