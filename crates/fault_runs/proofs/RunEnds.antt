@@ -17,7 +17,7 @@ use Rattle.runs.specs.Causes.{HasCauses, by_the_files, unread, no_room}
 use Rattle.runs.specs.Counts.{ShelfCounts}
 use Rattle.runs.specs.Status.{end_of}
 use Rattle.runs.specs.Loads.{IsTinUnready}
-use Rattle.runs.specs.Triangulations.{IsTinRefused}
+use Rattle.runs.specs.Triangulations.{IsTinRefusedOver}
 use Rattle.runs.proofs.RefusalLines.{memory-line}
 use Rattle.runs.proofs.RunEnds.{by_memory}
 use Rattle.runs.proofs.TinRefusals.{without_file, without_read, without_room, unready}
@@ -28,10 +28,10 @@ use Rattle.publication.specs.RunEnds.{HasStatusCauses}
 use Rattle.publication.proofs.RunEnds.{refusal_causes}
 use Rattle.fault_runs.specs.Refusals.{status_of, line_file}
 use Rattle.fault_runs.specs.Words.{AsksFaults, LacksFaults, LacksCheck}
-use Rattle.fault_runs.specs.Outcome.{IsReadRefused, IsNotChecked, HasReadOver, HasRead, IsSaidOf, HasTooMany}
+use Rattle.fault_runs.specs.Outcome.{IsReadRefusedOver, IsNotChecked, HasReadOver, HasRead, IsSaidOf, HasTooMany}
 use Rattle.fault_runs.specs.Outcome.{no_job, refused, too_many, listed}
 use Rattle.fault_runs.specs.Ends.{Makes, by_outcome, after_read_fault, out_of_memory, IsJsonFile, LacksWantedOf}
-use Rattle.fault_runs.specs.HandedOut.{MayRefuseWanted}
+use Rattle.fault_runs.specs.HandedOut.{MayRefuseWantedOver}
 use Rattle.fault_runs.specs.Laws.{faults_depth}
 use Rattle.fault_runs.specs.FaultsValue.{faults_whole}
 use Rattle.fault_runs.specs.InsideTexts.{IsFaultsText}
@@ -48,10 +48,10 @@ makes_no_job words files shelf_rose fault lacks =
     (λ f other lacks. by_outcome (no_job f (lacks other) (record { status_is = refl; made_is = refl }))) fault lacks
 
 -- a file that gives no triangulation
-read_refused : (files : Files) (how : How) (name : List ℕ) (refusal : Refusal) → IsTinRefused files how name refusal
-    → IsNotChecked refusal → IsReadRefused files how name refusal
-read_refused files how name (Check fault) is not = absurd not
-read_refused files how name refusal is not = is
+read_refused : (told : Option Files) (how : How) (name : List ℕ) (refusal : Refusal)
+    → IsTinRefusedOver told how name refusal → IsNotChecked refusal → IsReadRefusedOver told how name refusal
+read_refused told how name (Check fault) is not = absurd not
+read_refused told how name refusal is not = is
 
 makes_unread : (words : List (List ℕ)) (files : Files) (shelf_rose passed : Type 0) (wanted : Wanted)
     (refusal : Refusal) → AsksFaults words wanted
@@ -60,7 +60,7 @@ makes_unread : (words : List (List ℕ)) (files : Files) (shelf_rose passed : Ty
 makes_unread words files shelf_rose passed wanted refusal asks why not =
     elim (unready (Some files) wanted.how wanted.tin shelf_rose passed refusal why) [
       | without_file is ↦ by_outcome (refused wanted asks refusal
-          (read_refused files wanted.how wanted.tin refusal is not) (record { status_is = refl; made_is = refl }))
+          (read_refused (Some files) wanted.how wanted.tin refusal is not) (record { status_is = refl; made_is = refl }))
       | without_read rises is ↦ after_read_fault rises wanted asks (record {
         status_is = ap runs.status_of is;
         made_is = ap (λ (r : Refusal). (codes "-", runs.line_of r) ∷ []) is;
@@ -110,22 +110,15 @@ makes_unread_told words (Some files) shelf_rose passed wanted refusal asks why n
     makes_unread words files shelf_rose passed wanted refusal asks why not
 
 -- why a file that gives no triangulation is refused
-may_refuse : (files : Files) (wanted : Wanted) (shelf_rose passed : Type 0) (refusal : Refusal)
-    → IsTinUnready (Some files) wanted.how wanted.tin shelf_rose passed refusal → IsNotChecked refusal
-    → MayRefuseWanted files wanted shelf_rose (Run refusal)
-may_refuse files wanted shelf_rose passed refusal why not =
-    elim (unready (Some files) wanted.how wanted.tin shelf_rose passed refusal why) [
-      | without_file is ↦ by_the_files (read_refused files wanted.how wanted.tin refusal is not)
+pub may_refuse : (told : Option Files) (wanted : Wanted) (shelf_rose passed : Type 0) (refusal : Refusal)
+    → IsTinUnready told wanted.how wanted.tin shelf_rose passed refusal → IsNotChecked refusal
+    → MayRefuseWantedOver told wanted shelf_rose (Run refusal)
+may_refuse told wanted shelf_rose passed refusal why not =
+    elim (unready told wanted.how wanted.tin shelf_rose passed refusal why) [
+      | without_file is ↦ by_the_files (read_refused told wanted.how wanted.tin refusal is not)
       | without_read rises is ↦ unread rises is
       | without_room is ↦ no_room is
     ]
-
-pub may_refuse_told : (told : Option Files) (wanted : Wanted) (shelf_rose passed : Type 0) (refusal : Refusal)
-    → IsTinUnready told wanted.how wanted.tin shelf_rose passed refusal → IsNotChecked refusal
-    → IfSome told (λ files. MayRefuseWanted files wanted shelf_rose (Run refusal))
-may_refuse_told None wanted shelf_rose passed refusal why not = tt
-may_refuse_told (Some files) wanted shelf_rose passed refusal why not =
-    may_refuse files wanted shelf_rose passed refusal why not
 
 -- running out of memory has no other cause
 pub memory_causes : (lacks : Type 0) (counts : ShelfCounts) → HasCauses lacks (λ status. Unit {0}) counts NoMemory

@@ -1,5 +1,5 @@
 -- Where corners are, as they are printed.
-use Rattle.std.proofs.Common.{◌≡◌, ℕ, [], ap}
+use Rattle.std.proofs.Common.{◌≡◌, ℕ, ap}
 use Rattle.plane_base.specs.declared.shapes.Pt.{Pt}
 use Rattle.plane_base.specs.Plane.{Point, whole}
 use Rattle.tin_base.specs.declared.frames.Frame.{Frame}

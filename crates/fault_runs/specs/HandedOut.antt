@@ -5,7 +5,6 @@ use Rattle.shelf_io.specs.Files.{Files}
 use Rattle.shelf_io.specs.Load.{LacksName}
 use Rattle.tin_base.specs.Triangulation.{Triangulation}
 use Rattle.tin_base.specs.Soundness.{IsSound}
-use Rattle.tin_faults.specs.Faults.{HasMoreFaults}
 use Rattle.job_words.specs.declared.faults.WordsFault.{WordsFault}
 use Rattle.job_words.specs.declared.faults.WordsFault.TheVariants.{NoMemory as WordsMemory}
 use Rattle.runs.specs.declared.status.Status.{Status}
@@ -16,13 +15,12 @@ use Rattle.runs.specs.Status.{end_of}
 use Rattle.runs.specs.Counts.{ShelfCounts, HasFailed}
 use Rattle.publication.specs.Fronts.{HasWritten}
 use Rattle.publication.specs.RunEnds.{IsHandedOut}
-use Rattle.fault_runs.specs.declared.loads.TheConstants.{MOST_FAULTS}
 use Rattle.fault_runs.specs.declared.refusals.FaultRefusal.{FaultRefusal}
 use Rattle.fault_runs.specs.declared.refusals.FaultRefusal.TheVariants.{Run, TooManyFaults}
 use Rattle.fault_runs.specs.declared.words.Wanted.{Wanted}
 use Rattle.fault_runs.specs.Refusals.{status_of, line_file}
 use Rattle.fault_runs.specs.Words.{AsksFaults, LacksFaults}
-use Rattle.fault_runs.specs.Outcome.{HasReadOver, IsSaidOf, IsReadRefused, HasTooMany}
+use Rattle.fault_runs.specs.Outcome.{HasReadOver, IsSaidOf, IsReadRefusedOver, HasTooManyOver}
 use Rattle.fault_runs.specs.Ends.{IsJsonFile}
 
 -- the words are refused for their fault; memory may run out while they are read
@@ -32,25 +30,24 @@ IsRefusalOfWords words refusal =
 
 -- why nothing is listed of a triangulation: its file gives none, it could not be read, memory ran out, or it has too
 -- many faults
-abbrev pub MayRefuseWanted : Files → Wanted → Type 0 → FaultRefusal → Type 0
-MayRefuseWanted files wanted shelf_rose (Run refusal) =
-    MayRefuse (IsReadRefused files wanted.how wanted.tin) (λ reached. reached ≡ TinUnread) shelf_rose refusal
-MayRefuseWanted files wanted shelf_rose TooManyFaults = HasTooMany files wanted
+abbrev pub MayRefuseWantedOver : Option Files → Wanted → Type 0 → FaultRefusal → Type 0
+MayRefuseWantedOver told wanted shelf_rose (Run refusal) =
+    MayRefuse (IsReadRefusedOver told wanted.how wanted.tin) (λ reached. reached ≡ TinUnread) shelf_rose refusal
+MayRefuseWantedOver told wanted shelf_rose TooManyFaults = HasTooManyOver told wanted
 
--- what can be said of a refusal of the triangulation, whether or not the shelf states its files: a triangulation with
--- too many faults is one
-abbrev pub HasWantedCause : Wanted → Option Files → ShelfCounts → FaultRefusal → Type 0
-HasWantedCause wanted files counts (Run refusal) =
-    HasCauses (LacksName files wanted.tin) (λ status. Unit {0}) counts refusal
-HasWantedCause wanted files counts TooManyFaults = (tin : Triangulation) × HasMoreFaults tin MOST_FAULTS
+-- what the counts say of a refusal of the triangulation; of too many faults they say nothing
+abbrev pub HasWantedCauses : Wanted → Option Files → ShelfCounts → FaultRefusal → Type 0
+HasWantedCauses wanted told counts (Run refusal) =
+    HasCauses (LacksName told wanted.tin) (λ status. Unit {0}) counts refusal
+HasWantedCauses wanted told counts TooManyFaults = Unit {0}
 
 -- What the refusal of a triangulation says, whether or not the shelf states its files.
 pub record IsRefusalOfWanted (told : Option Files) (counts : ShelfCounts) (wanted : Wanted) (refusal : FaultRefusal) :
     Type 0 where
-  -- the files that the shelf states give it; or a read failed, or memory ran out
-  pub refused : IfSome told (λ files. MayRefuseWanted files wanted (HasFailed counts) refusal)
-  -- what the counts say of it, or the triangulation
-  pub counted : HasWantedCause wanted told counts refusal
+  -- what the shelf states gives it, or some bytes where it states nothing; or a read failed, or memory ran out
+  pub refused : MayRefuseWantedOver told wanted (HasFailed counts) refusal
+  -- what the counts say of it
+  pub counted : HasWantedCauses wanted told counts refusal
 
 -- why a run is refused: for its words, or as the triangulation that they ask for may be
 abbrev pub IsRefusalOfRun : List (List ℕ) → Option Files → ShelfCounts → FaultRefusal → Type 0

@@ -10,7 +10,7 @@ use Rattle.runs.specs.declared.status.Status.{Status}
 use Rattle.runs.specs.declared.refusal.Refusal.{Refusal}
 use Rattle.runs.specs.declared.refusal.Refusal.TheVariants.{Words, Check}
 use Rattle.runs.specs.Status.{end_of}
-use Rattle.runs.specs.Triangulations.{HasFileOver, IsRead, IsTinRefused}
+use Rattle.runs.specs.Triangulations.{HasFileOver, IsRead, IsTinRefusedOver}
 use Rattle.fault_runs.specs.declared.loads.TheConstants.{MOST_FAULTS}
 use Rattle.fault_runs.specs.declared.refusals.FaultRefusal.TheVariants.{Run, TooManyFaults}
 use Rattle.fault_runs.specs.declared.words.Wanted.{Wanted}
@@ -26,10 +26,13 @@ HasReadOver told how name tin = (text : List ℕ) × HasFileOver told name text 
 abbrev pub HasRead : Files → How → List ℕ → Triangulation → Type 0
 HasRead files how name tin = HasReadOver (Some files) how name tin
 
--- the file gives no triangulation, sound or not
+-- the file gives no triangulation, sound or not; where the shelf states nothing some bytes give none
+abbrev pub IsReadRefusedOver : Option Files → How → List ℕ → Refusal → Type 0
+IsReadRefusedOver told how name (Check fault) = ⊥
+IsReadRefusedOver told how name refusal = IsTinRefusedOver told how name refusal
+
 abbrev pub IsReadRefused : Files → How → List ℕ → Refusal → Type 0
-IsReadRefused files how name (Check fault) = ⊥
-IsReadRefused files how name refusal = IsTinRefused files how name refusal
+IsReadRefused files how name refusal = IsReadRefusedOver (Some files) how name refusal
 
 -- the refusal is not by the check of a triangulation that is read
 abbrev pub IsNotChecked : Refusal → Type 0
@@ -59,11 +62,14 @@ pub record IsListed (files : Files) (wanted : Wanted) (status : Status) (made : 
   pub status_is : status ≡ end_of some
   pub made_is : made ≡ (codes "-", said) ∷ []
 
--- the triangulation is read, and has more faults than are printed
-pub record HasTooMany (files : Files) (wanted : Wanted) : Type 0 where
+-- the triangulation is read, of what the shelf states or of some bytes, and has more faults than are printed
+pub record HasTooManyOver (told : Option Files) (wanted : Wanted) : Type 0 where
   pub tin : Triangulation
-  pub read : HasRead files wanted.how wanted.tin tin
+  pub read : HasReadOver told wanted.how wanted.tin tin
   pub more : HasMoreFaults tin MOST_FAULTS
+
+abbrev pub HasTooMany : Files → Wanted → Type 0
+HasTooMany files wanted = HasTooManyOver (Some files) wanted
 
 -- The status and the made files of a run, where no call of the outside fails and memory does not run out.
 pub data HasOutcome (words : List (List ℕ)) (files : Files) (status : Status) (made : Files) : Type 0 where

@@ -12,13 +12,13 @@ use Rattle.runs.specs.declared.refusal.Refusal.TheVariants.{Words}
 use Rattle.runs.specs.Causes.{HasCauses}
 use Rattle.runs.specs.Counts.{ShelfCounts, HasFailed}
 use Rattle.runs.specs.Refusals.{status_of, line_file}
-use Rattle.publication.specs.Fronts.{IsFrontOf}
+use Rattle.publication.specs.Fronts.{HasWritten}
 use Rattle.publication.specs.RunEnds.{IsHandedOut}
-use Rattle.migrate_mode.specs.Migrations.{LacksWanted, MayRefuseMigration}
+use Rattle.migrate_mode.specs.Migrations.{LacksWanted, MayRefuseMigrationOver}
 use Rattle.place_runs.specs.declared.requests.Request.{Request}
 use Rattle.place_runs.specs.Words.{AsksPlaces, LacksPlaces}
 use Rattle.place_runs.specs.Outcome.{HaveRows}
-use Rattle.place_runs.specs.Places.{IsPlacesDone}
+use Rattle.place_runs.specs.Places.{IsPlacesDoneOver}
 use Rattle.place_runs.specs.Ends.{IsJsonFile}
 
 -- the words are refused for their fault; memory may run out while they are read
@@ -29,8 +29,8 @@ IsRefusalOfWords words refusal =
 -- What the refusal of a migration says, whether or not the shelf states its files.
 pub record IsRefusalOfRequest (told : Option Files) (counts : ShelfCounts) (request : Request) (refusal : Refusal) :
     Type 0 where
-  -- the files that the shelf states give it; or a read failed, or memory ran out
-  pub refused : IfSome told (λ files. MayRefuseMigration files request.migration (HasFailed counts) refusal)
+  -- what the shelf states gives it, or some bytes where it states nothing; or a read failed, or memory ran out
+  pub refused : MayRefuseMigrationOver told request.migration (HasFailed counts) refusal
   -- what the counts say of it
   pub counted : HasCauses (LacksWanted request.migration told) (λ status. Unit {0}) counts refusal
 
@@ -40,13 +40,18 @@ IsRefusalOfRun words told counts refusal =
     IsRefusalOfWords words refusal
     ⊎ ((request : Request) × AsksPlaces words request × IsRefusalOfRequest told counts request refusal)
 
--- the words ask for a migration whose changes are printed, and what is made, where the press states it, is their text or
--- a first part of it
-abbrev pub IsRunDone : List (List ℕ) → Option Files → Files → Type 0
-IsRunDone words made files =
-    (request : Request) × (status : Status) × (said : List ℕ) × AsksPlaces words request
-    × IsPlacesDone request.view files request.migration status ((codes "-", said) ∷ [])
-    × IfSome made (λ now. IsFrontOf now ((codes "-", said) ∷ []))
+-- What is known of a run that is not refused, whether or not the shelf states its files.
+pub record IsRunDone (words : List (List ℕ)) (told : Option Files) (status : Status) (made : Option Files) : Type 0
+  where
+    -- the words ask for a migration whose changes are printed
+    pub request : Request
+    pub asks : AsksPlaces words request
+    -- this text has them, and this status says whether there is one: of what the shelf states, or of some bytes
+    pub said : List ℕ
+    pub wanted : Status
+    pub places : IsPlacesDoneOver request.view told request.migration wanted ((codes "-", said) ∷ [])
+    -- the text is made, and the run ends so; or after a write fault a first part is made
+    pub written : HasWritten ((codes "-", said) ∷ []) wanted status made
 
 -- What is handed out: a refusal, or none, and the rows of layers.
 pub record HandsOut (words : List (List ℕ)) (told : Option Files) (counts : ShelfCounts) (status : Status)
@@ -55,10 +60,10 @@ pub record HandsOut (words : List (List ℕ)) (told : Option Files) (counts : Sh
   pub refusal : IfSome handed (λ refusal. IsHandedOut (IsRefusalOfRun words told counts refusal) (status_of refusal)
       (line_file refusal) status made)
   -- where there is none the changes are those of the migration, and what is made is of their text
-  pub done : IfNone handed (IfSome told (IsRunDone words made))
+  pub done : IfNone handed (IsRunDone words told status made)
   pub status_is : IfNone handed ((status ≡ Same) ⊎ ((status ≡ Changed) ⊎ (status ≡ Write)))
   -- and where standard output could be written, it has one JSON text
   pub json : IfNone handed (status ≢ Write → IfSome made IsJsonFile)
   -- the rows are those of the migration's report, and with a refusal there are none
-  pub rows_are : IfNone handed (IfSome told (λ files. HaveRows words files rows))
+  pub rows_are : IfNone handed (HaveRows words told rows)
   pub no_rows : IfSome handed (λ refusal. rows ≡ [])

@@ -1,5 +1,5 @@
 -- What a run makes, as a relation of the words, the shelf's files, the status and the made files.
-use Rattle.std.specs.Prelude.{ℕ, List}
+use Rattle.std.specs.Prelude.{ℕ, List, Option}
 use Rattle.shelf_io.specs.Files.{Files}
 use Rattle.job_words.specs.declared.faults.WordsFault.{WordsFault}
 use Rattle.report_text.specs.declared.rows.LayerRow.{LayerRow}
@@ -24,5 +24,5 @@ pub data HasOutcome (words : List (List ℕ)) (files : Files) (status : Status) 
       → IsPlacesDone request.view files request.migration status made → HasOutcome words files status made
 
 -- the words ask for a migration, and its report would say this of each layer
-abbrev pub HaveRows : List (List ℕ) → Files → List LayerRow → Type 0
-HaveRows words files rows = (request : Request) × AsksPlaces words request × AreRowsOf files request.migration rows
+abbrev pub HaveRows : List (List ℕ) → Option Files → List LayerRow → Type 0
+HaveRows words told rows = (request : Request) × AsksPlaces words request × AreRowsOf told request.migration rows

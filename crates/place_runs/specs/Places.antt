@@ -25,7 +25,7 @@ use Rattle.runs.specs.declared.status.Status.{Status}
 use Rattle.migrate_mode.specs.declared.migrations.Migration.{Migration}
 use Rattle.layer_formats.specs.LayerOutcomes.{IsLayerText}
 use Rattle.migrate_mode.specs.LayerRuns.{setting_of, Done, AreCarried}
-use Rattle.migrate_mode.specs.Migrations.{HasWay, row_of}
+use Rattle.migrate_mode.specs.Migrations.{HasWayOver, row_of}
 use Rattle.migrate_mode.specs.RunChanges.{AreListed, end_with}
 use Rattle.change_places.specs.declared.spots.Style.{Style}
 use Rattle.ring_side.specs.declared.kinds.SideChange.{SideChange}
@@ -169,21 +169,26 @@ pub record ArePlacesOf (view : View) (told : Option Files) (migration : Migratio
   pub said_is : said ≡ places_text (style_of view) migration.layers spots rings
   pub status_is : status ≡ end_with (printed_of view changes) sides
 
--- the files give this text alone, on standard output
-pub record IsPlacesDone (view : View) (files : Files) (migration : Migration) (status : Status) (made : Files) : Type 0
-  where
-    pub tin : Triangulation
-    pub way : HasWay files migration tin
-    pub said : List ℕ
-    pub are : ArePlacesOf view (Some files) migration tin status said
-    pub made_is : made ≡ (codes "-", said) ∷ []
-
--- what the report of the migration would say of each layer
-pub record AreRowsOf (files : Files) (migration : Migration) (rows : List LayerRow) : Type 0 where
+-- What the shelf states gives this text alone, on standard output; where it states nothing some bytes do. Then it is not
+-- said that the paths of a layer begin in the very bytes that are carried.
+pub record IsPlacesDoneOver (view : View) (told : Option Files) (migration : Migration) (status : Status) (made : Files) :
+    Type 0 where
   pub tin : Triangulation
-  pub way : HasWay files migration tin
+  pub way : HasWayOver told migration tin
+  pub said : List ℕ
+  pub are : ArePlacesOf view told migration tin status said
+  pub made_is : made ≡ (codes "-", said) ∷ []
+
+abbrev pub IsPlacesDone : View → Files → Migration → Status → Files → Type 0
+IsPlacesDone view files migration status made = IsPlacesDoneOver view (Some files) migration status made
+
+-- what the report of the migration would say of each layer, of what the shelf states, or of some bytes where it states
+-- nothing
+pub record AreRowsOf (told : Option Files) (migration : Migration) (rows : List LayerRow) : Type 0 where
+  pub tin : Triangulation
+  pub way : HasWayOver told migration tin
   pub pieces : List Piece
   pub done : List Done
   pub used : ℕ
-  pub carried : AreCarried (setting_of (Some files) migration.how tin) 0 0 [] migration.layers pieces done used
+  pub carried : AreCarried (setting_of told migration.how tin) 0 0 [] migration.layers pieces done used
   pub rows_are : rows ≡ map row_of done

@@ -1,6 +1,6 @@
 //! What a run prints: the places of the changes of a migration.
 
-ghost use Rattle.std.specs.Prelude.{◌≡◌, ◌≤◌, [], ℕ, List, IfOk, IfErr, IfSome, vec_len, vec_capacity};
+ghost use Rattle.std.specs.Prelude.{◌≡◌, ◌≤◌, [], ℕ, List, IfOk, IfErr, vec_len, vec_capacity};
 ghost use Rattle.std.specs.List.{AllByRecursion};
 ghost use Rattle.report_text.specs.Reports.{IsPrintable};
 ghost use Rattle.shelf_io.specs.Count.{Rose};
@@ -10,14 +10,14 @@ ghost use Rattle.migrate_mode.specs.RunContents.{IsUnreported, MayBeSided};
 ghost use Rattle.runs.specs.Status.{end_of};
 ghost use Rattle.runs.specs.Counts.{LeavesFaults, shelf_counts};
 ghost use Rattle.runs.specs.Causes.{HasCauses};
-ghost use Rattle.migrate_mode.specs.Migrations.{MayRefuseMigration, LacksWanted};
+ghost use Rattle.migrate_mode.specs.Migrations.{MayRefuseMigrationOver, LacksWanted};
 ghost use Rattle.place_runs.specs.Words.{MayBeCarried};
 ghost use Rattle.place_runs.specs.InsidePieces.{IsPlacesText, said_file};
 ghost use Rattle.place_runs.specs.InsideMaps.{HasRoom, HasSides, IsEachOne, IsMapOf, IsMapText};
 ghost use Rattle.layer_features.specs.JsonFeatures.{asked_for};
 ghost use Rattle.change_places.specs.Words.{layer_words};
 ghost use Rattle.change_places.specs.Laws.{IsPathCopied};
-ghost use Rattle.place_runs.specs.Places.{IsPlacesDone, AreRowsOf, is_asked, style_of};
+ghost use Rattle.place_runs.specs.Places.{IsPlacesDoneOver, AreRowsOf, is_asked, style_of};
 
 use crate::change_maps::ChangeMap;
 use crate::layers::{PlacedRun, carry_layers};
@@ -170,18 +170,17 @@ pub fn prepare_places<S: Shelf>(
     view: &View,
 ) -> Result<PreparedMap, Refusal>
     requires { MayBeCarried migration.now }
-    ensures ok { IfOk result (λ prepared. IfSome (S.files shelf.old) (λ files. (said : List ℕ)
-        → IsMapText migration.now.layers prepared.map said
-        → IsPlacesDone view.now files migration.now (end_of prepared.changed) (said_file said))) }
-    ensures rows { IfOk result (λ prepared. IfSome (S.files shelf.old) (λ files. AreRowsOf files migration.now prepared.rows.items)) }
+    ensures ok { IfOk result (λ prepared. (said : List ℕ) → IsMapText migration.now.layers prepared.map said
+        → IsPlacesDoneOver view.now (S.files shelf.old) migration.now (end_of prepared.changed) (said_file said)) }
+    ensures rows { IfOk result (λ prepared. AreRowsOf (S.files shelf.old) migration.now prepared.rows.items) }
     ensures some { IfOk result (λ prepared. (said : List ℕ) × IsMapText migration.now.layers prepared.map said) }
     ensures form { IfOk result (λ prepared. (said : List ℕ) → IsMapText migration.now.layers prepared.map said
         → IsPlacesText view.now migration.now.layers said) }
     ensures sides { IfOk result (λ prepared. HasSides prepared.map) }
     ensures room { IfOk result (λ prepared. HasRoom migration.now.layers prepared.map (vec_capacity prepared.room)) }
     ensures empty { IfOk result (λ prepared. prepared.room.items ≡ []) }
-    ensures refused { IfErr result (λ refusal. IfSome (S.files shelf.old)
-        (λ files. MayRefuseMigration files migration.now (Rose (S.faults shelf.old) (S.faults shelf.new)) refusal)) }
+    ensures refused { IfErr result (MayRefuseMigrationOver (S.files shelf.old) migration.now
+        (Rose (S.faults shelf.old) (S.faults shelf.new))) }
     ensures causes { IfErr result (HasCauses (LacksWanted migration.now (S.files shelf.old)) (λ status. Unit {0})
         (shelf_counts (S.faults shelf.old) (S.faults shelf.new) (S.given shelf.old) (S.given shelf.new))) }
     ensures faults { LeavesFaults (S.faults shelf.old) (S.faults shelf.new) result }

@@ -23,10 +23,9 @@ use Rattle.runs.specs.Triangulations.{HasDirectedOver}
 use Rattle.migrate_mode.specs.declared.layer_runs.CarriedLayers.{CarriedLayers}
 use Rattle.migrate_mode.specs.declared.migrations.Migration.{Migration}
 use Rattle.migrate_mode.specs.LayerRuns.{setting_of}
-use Rattle.migrate_mode.specs.Migrations.{MayRefuseMigration, MayRefuseMigrationOver}
 use Rattle.migrate_mode.specs.RunContents.{AddsNone, HasCarried, HasKept}
 use Rattle.place_runs.specs.declared.views.View.{View}
-use Rattle.place_runs.specs.Places.{words_there, words_by_line, HasPathPlaces, HaveAllPlaces, IsPlacesDone, AreRowsOf}
+use Rattle.place_runs.specs.Places.{words_there, words_by_line, HasPathPlaces, HaveAllPlaces, IsPlacesDoneOver, AreRowsOf}
 use Rattle.place_runs.specs.InsideLayers.{HasPlacesAs, HasPlaces, LacksPlacesOf, line_spots, named_spots, spot_there}
 use Rattle.place_runs.proofs.PrintedMaps.SideSpots.{rings_have}
 use Rattle.place_runs.proofs.LayerPaths.PathWords.{there_words, line_words, lines_of_places, words_append}
@@ -133,23 +132,14 @@ pub places_done : (view : View) (told : Option Files) (migration : Migration) (t
     → HasKept run.sides (setting_of told migration.how tin) migration.layers run → run.sides ≡ migration.sides
     → HaveAllPlaces told migration.how view.member migration.layers places
     → IsMapOf view tin run places map changed
-    → IfSome told (λ files. (said : List ℕ) → IsMapText migration.layers map said
-    → IsPlacesDone view files migration (end_of changed) (said_file said))
-places_done view None migration tin run places map changed ready has kept same have is = tt
-places_done view (Some files) migration tin run places map changed ready has kept same have is =
+    → (said : List ℕ) → IsMapText migration.layers map said
+    → IsPlacesDoneOver view told migration (end_of changed) (said_file said)
+places_done view told migration tin run places map changed ready has kept same have is =
     grind (arith, spots_of_map, rings_have, text_of_map)
 
 -- what a report would say of the layers that were carried
 pub rows_done : (told : Option Files) (migration : Migration) (tin : Triangulation) (run : CarriedLayers) (rows : List LayerRow)
     → HasDirectedOver told migration.how migration.tin migration.inverse tin
     → HasCarried (setting_of told migration.how tin) false migration.out migration.layers run → rows ≡ run.rows.items
-    → IfSome told (λ files. AreRowsOf files migration rows)
-rows_done None migration tin run rows ready has is = tt
-rows_done (Some files) migration tin run rows ready has is = grind (arith)
-
--- what refuses the migration over what the shelf states refuses it over its files
-pub refused_told : (told : Option Files) (migration : Migration) (rose : Type 0) (refusal : Refusal)
-    → MayRefuseMigrationOver told migration rose refusal
-    → IfSome told (λ files. MayRefuseMigration files migration rose refusal)
-refused_told None migration rose refusal why = tt
-refused_told (Some files) migration rose refusal why = why
+    → AreRowsOf told migration rows
+rows_done told migration tin run rows ready has is = grind (arith)

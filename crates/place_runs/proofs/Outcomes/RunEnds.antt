@@ -16,12 +16,13 @@ use Rattle.runs.proofs.RunEnds.{by_memory}
 use Rattle.publication.specs.Fronts.{HasWritten}
 use Rattle.publication.specs.RunEnds.{HasStatusCauses}
 use Rattle.publication.proofs.RunEnds.{refusal_causes, handed_out}
-use Rattle.migrate_mode.specs.Migrations.{MayRefuseMigration, LacksWanted}
+use Rattle.migrate_mode.specs.declared.migrations.Migration.{Migration}
+use Rattle.migrate_mode.specs.Migrations.{MayRefuseMigration, MayRefuseMigrationOver, LacksWanted}
 use Rattle.place_runs.specs.declared.requests.Request.{Request}
 use Rattle.place_runs.specs.Words.{AsksPlaces, LacksPlaces, LacksRequest}
 use Rattle.place_runs.specs.HandedOut.{HandsOut, IsRefusalOfRun}
 use Rattle.place_runs.specs.Outcome.{no_job, refused, done}
-use Rattle.place_runs.specs.Places.{IsPlacesDone}
+use Rattle.place_runs.specs.Places.{IsPlacesDone, IsPlacesDoneOver}
 use Rattle.place_runs.specs.Ends.{Makes, by_outcome, after_read_fault, out_of_memory, IsJsonFile, LacksWantedOf}
 use Rattle.place_runs.specs.InsidePieces.{IsPlacesText}
 use Rattle.place_runs.specs.declared.views.View.{View}
@@ -40,6 +41,20 @@ makes_refusal words files shelf_rose request refusal asks (unread rose reached) 
     after_read_fault rose request asks refusal reached (record { status_is = refl; made_is = refl })
 makes_refusal words files shelf_rose request refusal asks (no_room is) =
     out_of_memory (record { status_is = is; made_is = ap (λ line. (codes "-", line) ∷ []) (memory-line refusal is) })
+
+-- what refuses the migration over what the shelf states refuses it over its files
+pub refused_told : (told : Option Files) (migration : Migration) (rose : Type 0) (refusal : Refusal)
+    → MayRefuseMigrationOver told migration rose refusal
+    → IfSome told (λ files. MayRefuseMigration files migration rose refusal)
+refused_told None migration rose refusal why = tt
+refused_told (Some files) migration rose refusal why = why
+
+-- what is done over what the shelf states is done over its files
+pub done_told : (told : Option Files) (view : View) (migration : Migration) (status : Status) (made : Files)
+    → IsPlacesDoneOver view told migration status made
+    → IfSome told (λ files. IsPlacesDone view files migration status made)
+done_told None view migration status made is = tt
+done_told (Some files) view migration status made is = is
 
 -- the text of its changes is
 pub makes_places : (words : List (List ℕ)) (files : Files) (shelf_rose : Type 0) (request : Request)

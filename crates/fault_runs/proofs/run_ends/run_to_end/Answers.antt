@@ -12,7 +12,7 @@ use Rattle.fault_runs.specs.declared.refusals.FaultRefusal.TheVariants.{Run, Too
 use Rattle.fault_runs.specs.Ends.{Makes}
 use Rattle.fault_runs.specs.Refusals.{status_of, line_of, line_file}
 use Rattle.fault_runs.proofs.RunEnds.{makes_no_job, makes_unread_told, makes_many, makes_no_room, makes_said, read_told}
-use Rattle.fault_runs.proofs.RunEnds.{may_refuse_told, memory_causes, asks_or_lacks, wanted_causes, json_told}
+use Rattle.fault_runs.proofs.RunEnds.{may_refuse, memory_causes, asks_or_lacks, wanted_causes, json_told}
 use Rattle.fault_runs.proofs.TextLimits.{many_apart, text_apart}
 use Rattle.fault_runs.proofs.run_ends.run_to_end.Goals as goal
 
@@ -76,7 +76,7 @@ returns-in-Err-load_read-clause-handed g c =
             c.in-Ok.wanted,
             c.in-Ok.ensures.asks,
             record {
-              refused = may_refuse_told files c.in-Ok.wanted _ _ refusal
+              refused = may_refuse files c.in-Ok.wanted _ _ refusal
                   (rw c.text.ensures at c.in-Err-load_read.ensures.refused) c.in-Err-load_read.ensures.not_checked;
               counted = rw c.text.ensures at c.in-Err-load_read.ensures.causes;
             },
@@ -163,8 +163,6 @@ returns-in-Err-TooMany-clause-causes g c =
 
 pub returns-in-Err-TooMany-clause-handed : goal.returns-in-Err-TooMany-clause-handed
 returns-in-Err-TooMany-clause-handed g c =
-    let many = c.in-Err-TooMany.ensures.too_many c.in-Err-TooMany.field-0-is in
-    let files = g.S.Shelf.files c.args.shelf.now in
     record {
       refusal = handed_out _ (line_file TooManyFaults) Limit c.refuse-in-Err-TooMany.result
           (g.P.Press.made c.refuse-in-Err-TooMany.new.press) (λ no. cc) c.refuse-in-Err-TooMany.ensures.written
@@ -172,10 +170,12 @@ returns-in-Err-TooMany-clause-handed g c =
             c.in-Ok.wanted,
             c.in-Ok.ensures.asks,
             record {
-              refused = told files (λ f is. record { tin = c.in-Ok-load_read.tin; read = is; more = many })
-                  (read_told files c.in-Ok.wanted c.in-Ok-load_read.tin
-                  (rw c.text.ensures at c.in-Ok-load_read.ensures.ok));
-              counted = (c.in-Ok-load_read.tin, many);
+              refused = record {
+                tin = c.in-Ok-load_read.tin;
+                read = rw c.text.ensures at c.in-Ok-load_read.ensures.ok;
+                more = c.in-Err-TooMany.ensures.too_many c.in-Err-TooMany.field-0-is;
+              };
+              counted = tt;
             },
           ));
       no_sound = refl;
@@ -201,7 +201,6 @@ returns-clause-causes g c =
 
 pub returns-clause-handed : goal.returns-clause-handed
 returns-clause-handed g c =
-    let files = g.S.Shelf.files c.args.shelf.now in
     record {
       refusal = handed_out _ (line_file (Run NoMemory)) (status_of (Run NoMemory)) c.refuse-in-Err-NoMemory.result
           (g.P.Press.made c.refuse-in-Err-NoMemory.new.press) (never-write NoMemory)
@@ -209,7 +208,7 @@ returns-clause-handed g c =
           (inr (
             c.in-Ok.wanted,
             c.in-Ok.ensures.asks,
-            record { refused = told_always files (λ f. no_room refl); counted = memory_causes _ _ },
+            record { refused = no_room refl; counted = memory_causes _ _ },
           ));
       no_sound = refl;
       done = tt;

@@ -10,7 +10,7 @@ use Rattle.migrate_mode.proofs.LayerCauses.{layers_causes, report_causes}
 use Rattle.migrate_mode.proofs.RunSheets.{may_be_sided}
 use Rattle.migrate_mode.specs.LayerRuns.{setting_of}
 use Rattle.place_runs.proofs.Outcomes.PieceOrder.{one_piece}
-use Rattle.place_runs.proofs.LayerPaths.LayerPlaces.{places_done, rows_done, refused_told}
+use Rattle.place_runs.proofs.LayerPaths.LayerPlaces.{places_done, rows_done}
 use Rattle.change_places.specs.Words.{layer_words}
 use Rattle.place_runs.proofs.LayerPaths.PathWords.{all_words_copied}
 use Rattle.place_runs.proofs.PrintedMaps.PrintedNames.{printable_names}
@@ -19,17 +19,15 @@ use Rattle.place_runs.proofs.places.prepare_places.Goals as goal
 pub returns-in_err-index-clause-refused : goal.returns-in_err-index-clause-refused
 returns-in_err-index-clause-refused g c =
     handed_on _ c.in_err-index.field-0.0 c.from_residual.result c.from_residual.ensures.1
-    (refused_told (g.S.Shelf.files c.args.shelf.now) c.args.migration.now _ c.in_err-index.field-0.0
     (tin_refused (g.S.Shelf.files c.args.shelf.now) c.args.migration.now _ _ c.in_err-index.field-0.0
-    (rw c.text.ensures at c.in_err-index.ensures.refused)))
+    (rw c.text.ensures at c.in_err-index.ensures.refused))
 
 pub returns-in_err-placed-clause-refused : goal.returns-in_err-placed-clause-refused
 returns-in_err-placed-clause-refused g c =
     handed_on _ c.in_err-placed.field-0.0 c.from_residual-in_err-placed.result c.from_residual-in_err-placed.ensures.1
-    (refused_told (g.S.Shelf.files c.args.shelf.now) c.args.migration.now _ c.in_err-placed.field-0.0
     (layers_refused (g.S.Shelf.files c.args.shelf.now) c.args.migration.now c.in_ok-index.index _ _
     c.in_err-placed.field-0.0 (rw c.text.ensures at c.in_ok-index.ensures.ok) (λ rose. rose)
-    (rw (c.in_ok-index.ensures.files, c.in_ok-index.ensures.faults.same) at c.in_err-placed.ensures.refused.refused)))
+    (rw (c.in_ok-index.ensures.files, c.in_ok-index.ensures.faults.same) at c.in_err-placed.ensures.refused.refused))
 
 pub returns-in_err-placed-clause-causes : goal.returns-in_err-placed-clause-causes
 returns-in_err-placed-clause-causes g c =
@@ -96,11 +94,10 @@ pub returns-clause-refused : goal.returns-clause-refused
 returns-clause-refused g c =
     refused_more _ _ c.places_of_run.result
     (λ refusal why.
-    refused_told (g.S.Shelf.files c.args.shelf.now) c.args.migration.now _ refusal
-    (report_refused (g.S.Shelf.files c.args.shelf.now) c.args.migration.now false c.in_ok-index.index
+    report_refused (g.S.Shelf.files c.args.shelf.now) c.args.migration.now false c.in_ok-index.index
     c.in_ok-placed.placed.run _ refusal (rw c.text.ensures at c.in_ok-index.ensures.ok)
     (rw c.in_ok-index.ensures.files at c.in_ok-placed.ensures.ok.carried)
-    (rw c.in_ok-index.ensures.files at c.in_ok-placed.ensures.ok.kept) c.in_ok-placed.ensures.ok.sides why))
+    (rw c.in_ok-index.ensures.files at c.in_ok-placed.ensures.ok.kept) c.in_ok-placed.ensures.ok.sides why)
     (rw c.into_tin-tin.ensures at c.places_of_run.ensures.refused)
 
 pub places_of_run-requires-clause-printable : goal.places_of_run-requires-clause-printable

@@ -5,12 +5,11 @@ use Rattle.runs.specs.Status.{end_of}
 use Rattle.runs.specs.Refusals.{status_of, line_file}
 use Rattle.runs.proofs.RefusalLines.{never-write}
 use Rattle.runs.proofs.RunEnds.{never-write-end, told, told_always, done_end}
-use Rattle.publication.proofs.Fronts.{written_front}
 use Rattle.publication.proofs.LimitFronts.{limit_apart}
 use Rattle.publication.proofs.RunEnds.{ends_so, words_causes, plain_causes, end_understood, end_unread}
 use Rattle.place_runs.specs.Ends.{Makes}
 use Rattle.place_runs.proofs.Outcomes.RunEnds.{makes_refusal, makes_places, makes_no_job, asks_or_lacks, request_causes}
-use Rattle.place_runs.proofs.Outcomes.RunEnds.{json_told, refusal_handed}
+use Rattle.place_runs.proofs.Outcomes.RunEnds.{json_told, refusal_handed, refused_told, done_told}
 use Rattle.place_runs.proofs.PrintedMaps.TextLimits.{text_apart}
 use Rattle.place_runs.proofs.run_ends.run_to_end.Goals as goal
 
@@ -48,13 +47,15 @@ returns-in-Ok-prepare_places-clause-ends g c =
     let e = c.say_map-status.ensures in
     let changed = c.in-Ok-prepare_places.prepared.changed in
     let (said, text) = c.in-Ok-prepare_places.ensures.some in
+    let request = c.in-Ok.request in
     told (g.S.Shelf.files c.args.shelf.now) (λ files is.
     ends_so (Makes (map string_bytes c.args.words.now) files _) _ ((codes "-", said) ∷ []) (end_of changed)
     c.say_map-status.result (g.P.Press.made c.say_map-status.new.press) (never-write-end changed)
-    (makes_places (map string_bytes c.args.words.now) files _ c.in-Ok.request (end_of changed)
-    ((codes "-", said) ∷ []) c.in-Ok.ensures.asks (is said text))
+    (makes_places (map string_bytes c.args.words.now) files _ request (end_of changed)
+    ((codes "-", said) ∷ []) c.in-Ok.ensures.asks is)
     ((rw (c.items-names.ensures, c.end.ensures) at e.written) said text) e.press.rose)
-    c.in-Ok-prepare_places.ensures.ok
+    (done_told (g.S.Shelf.files c.args.shelf.now) request.view request.migration (end_of changed) _
+    (c.in-Ok-prepare_places.ensures.ok said text))
 
 pub returns-in-Ok-prepare_places-clause-causes : goal.returns-in-Ok-prepare_places-clause-causes
 returns-in-Ok-prepare_places-clause-causes g c =
@@ -74,25 +75,21 @@ returns-in-Ok-prepare_places-clause-handed g c =
     let (said, text) = c.in-Ok-prepare_places.ensures.some in
     let written = (rw (c.items-names.ensures, c.end.ensures) at c.say_map-status.ensures.written) said text in
     let request = c.in-Ok.request in
-    let files = g.S.Shelf.files c.args.shelf.now in
     let made = g.P.Press.made c.say_map-status.new.press in
     record {
       refusal = tt;
-      done = told files
-          (λ f is. (
-            request,
-            end_of changed,
-            said,
-            c.in-Ok.ensures.asks,
-            is said text,
-            written_front ((codes "-", said) ∷ []) (end_of changed) c.say_map-status.result made
-                (never-write-end changed) written,
-          ))
-          c.in-Ok-prepare_places.ensures.ok;
+      done = record {
+        request = request;
+        asks = c.in-Ok.ensures.asks;
+        said = said;
+        wanted = end_of changed;
+        places = c.in-Ok-prepare_places.ensures.ok said text;
+        written = written;
+      };
       status_is = done_end changed c.say_map-status.result written.status;
       json = λ other. json_told request.view request.migration.layers said made
           (c.in-Ok-prepare_places.ensures.form said text) (written.all other);
-      rows_are = told files (λ f is. (request, c.in-Ok.ensures.asks, is)) c.in-Ok-prepare_places.ensures.rows;
+      rows_are = (request, c.in-Ok.ensures.asks, c.in-Ok-prepare_places.ensures.rows);
       no_rows = tt;
     }
 
@@ -107,7 +104,8 @@ returns-clause-ends g c =
     (never-write refusal)
     (makes_refusal (map string_bytes c.args.words.now) files _ c.in-Ok.request refusal c.in-Ok.ensures.asks is)
     e.written e.press.rose)
-    c.in-Err-prepare_places.ensures.refused
+    (refused_told (g.S.Shelf.files c.args.shelf.now) c.in-Ok.request.migration _ refusal
+    c.in-Err-prepare_places.ensures.refused)
 
 pub returns-clause-causes : goal.returns-clause-causes
 returns-clause-causes g c =
