@@ -79,7 +79,8 @@ The report goes to standard output.
 exit status:
   0  all is written and nothing changed; or the triangulation is sound;
      or the written layer is certified; or the points are written
-  1  all is written, and the report lists at least one changed pair of pieces
+  1  all is written, and the report lists at least one changed pair of pieces,
+     or with --sides a point that changed its side, or a ring that turned
   2  the words are not understood
   3  the triangulation is refused
   4  a layer is refused

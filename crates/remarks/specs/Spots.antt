@@ -126,9 +126,14 @@ within_words bytes (TrianglePair first second) =
 within_words bytes (Segment path segment) = codes ": path " ++ decimal path ++ codes " segment " ++ decimal segment
 within_words bytes spot = []
 
+-- a file as a whole, by its name; what is made in memory has an empty one, and is not named
+abbrev pub file_words : List ℕ → List ℕ
+file_words name = if eqb (length name) 0 then [] else shown_of name ++ codes ": "
+
 -- the place in a file of this name, as it is shown, with these bytes
 abbrev pub spot_words : List ℕ → Option (List ℕ) → FilePlace → List ℕ
 spot_words name bytes Run = []
+spot_words name bytes File = file_words name
 spot_words name bytes (LayerWord layer) = codes "layer " ++ decimal layer ++ codes ": "
 spot_words name bytes spot = shown_of name ++ within_words bytes spot ++ codes ": "
 

@@ -101,7 +101,7 @@ fn put_within(text: &mut String, bytes: Option<&[u8]>, spot: FilePlace) -> Resul
     }
 }
 
-/// Puts where the refusal comes from, up to what was found.
+/// Puts where the refusal comes from, up to what was found. What is made in memory has an empty name, which is left out.
 fn put_spot(
     text: &mut String,
     name: &str,
@@ -112,6 +112,7 @@ fn put_spot(
 {
     match spot {
         FilePlace::Run => Ok(()),
+        FilePlace::File if name.is_empty() => Ok(()),
         FilePlace::LayerWord(layer) => {
             put_number(text, "layer ", u64::from(layer))?;
             text.push_str(": ")?;

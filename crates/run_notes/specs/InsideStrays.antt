@@ -1,6 +1,6 @@
 -- Where a segment is that is outside, and whether numbers look like degrees.
 use Rattle.std.specs.Prelude.{◌≡◌, ◌+◌, ◌&&◌, ℕ, Bool, true, false, List, length, map, Option, None, Some, nat_le, nat_lt, slice_get}
-use Rattle.std.specs.Prelude.{◌↔◌, ◌==◌, if◌then◌else◌, IsTrue, find, unsigned_abs}
+use Rattle.std.specs.Prelude.{◌↔◌, if◌then◌else◌, IsTrue, unsigned_abs}
 use Rattle.std.specs.List.{AllByRecursion, list_all}
 use Rattle.plane_base.specs.declared.shapes.Pt.{Pt}
 use Rattle.plane_base.specs.declared.shapes.Rect.{Rect}

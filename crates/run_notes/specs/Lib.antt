@@ -4,7 +4,7 @@ pub use Rattle.sheet_base.specs.EditStarts
 pub use Rattle.sheet_base.specs.Sheets
 pub use Rattle.job_words.specs.Formats
 pub use Rattle.job_words.specs.Jobs
-pub mod LayerCounts
+pub mod JobWork
 pub mod Substitutes
 pub mod LayersAgain
 pub mod LeftOutKinds

@@ -12,4 +12,4 @@ pub use laws::limits_are_stated;
 pub use lines::{making_text, say_line};
 pub use press_notes::{LastName, NotedPress, Notes};
 pub use progress::{ToldPress, ToldShelf};
-pub use step_lines::RunSteps;
+pub use step_lines::Work;

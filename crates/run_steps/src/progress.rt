@@ -1,6 +1,6 @@
 //! What a run is doing, shown in one line of a terminal that is written again, while it reads and makes files.
 
-ghost use Rattle.std.specs.Prelude.{◌≡◌, codes, IsNone, IsOk, OnOk};
+ghost use Rattle.std.specs.Prelude.{◌≡◌, codes, IfSome, IsNone, IsOk, OnOk};
 ghost use Rattle.shelf_io.specs.Count.{count_after};
 ghost use Rattle.run_steps.specs.Heard.{IsHeard};
 ghost use Rattle.run_steps.specs.InsideStepLines.{step_behind, step_text_of};
@@ -8,20 +8,20 @@ ghost use Rattle.run_steps.specs.Lines.{line_of};
 ghost use Rattle.run_steps.specs.declared.lines.TheConstants.{CLEAR};
 
 use crate::lines::{CLEAR, put};
-use crate::step_lines::{Doing, RunStep, RunSteps, say_step, tick};
+use crate::step_lines::{Doing, RunStep, Work, say_step, tick};
 use shelf_io::{Failed, Press, Shelf};
 use std::fmt;
 use std::io::Write;
 
 /// A shelf over a shelf, which says what a run is doing. The first file that is begun is
-/// taken for the triangulation, and the others for the layers in order.
+/// taken for the triangulation, and the others for those of the work in order.
 #[derive(Drop)]
 pub struct ToldShelf<S: Drop, W: Drop> {
     pub shelf: S,
     /// Where it is heard, if anywhere.
     pub to: Option<W>,
     /// What there is to do.
-    steps: RunSteps,
+    work: Work,
     /// How many files were begun.
     begun: usize,
     /// How many bytes of the file at hand were read.
@@ -30,15 +30,15 @@ pub struct ToldShelf<S: Drop, W: Drop> {
 
 impl<S: Shelf + Drop, W: Write + Drop> ToldShelf<S, W> {
     /// The shelf, and where it says what is done with it.
-    pub fn new(shelf: S, to: Option<W>, steps: RunSteps) -> Self
+    pub fn new(shelf: S, to: Option<W>, work: Work) -> Self
         ensures shelf { result.shelf ≡ shelf }
         ensures to { result.to ≡ to }
-        ensures steps { result.steps ≡ steps }
+        ensures work { result.work ≡ work }
     {
         ToldShelf {
             shelf,
             to,
-            steps,
+            work,
             begun: 0,
             read: 0,
         }
@@ -49,34 +49,37 @@ impl<S: Drop, W: Write + Drop> ToldShelf<S, W> {
     /// Says that the file of this name is read. A failure of this changes nothing.
     fn say_begun(&mut self, name: &str)
         ensures shelf { self.new.shelf ≡ self.old.shelf }
-        ensures steps { self.new.steps ≡ self.old.steps }
+        ensures work { self.new.work ≡ self.old.work }
         ensures begun { self.new.begun ≡ count_after self.old.begun 1 }
     {
         self.begun = self.begun.saturating_add(1);
         self.read = 0;
-        let number = self.begun.saturating_mul(2).saturating_sub(1);
         let step = RunStep {
-            number,
-            steps: self.steps,
+            number: self.work.number_of_reading(self.begun),
+            work: self.work,
             doing: Doing::Reading(name),
         };
         let _ = say_step(&mut self.to, step);
     }
 
-    /// Says how far the file at hand is read, or what is done after its end.
+    /// Says how far the file at hand is read, or what is done after its end, where something is.
     fn say_read(&mut self, count: usize) -> fmt::Result
         ensures shelf { self.new.shelf ≡ self.old.shelf }
-        ensures steps { self.new.steps ≡ self.old.steps }
+        ensures work { self.new.work ≡ self.old.work }
         ensures begun { self.new.begun ≡ self.old.begun }
-        ensures behind { count ≡ 0 → OnOk result (IsHeard W.contents self.old.to self.new.to
-            (line_of (step_text_of (step_behind self.old.steps self.old.begun)))) }
+        ensures behind { count ≡ 0 → IfSome (step_behind self.old.work self.old.begun)
+            (λ step. OnOk result (IsHeard W.contents self.old.to self.new.to (line_of (step_text_of step)))) }
+        ensures silent { count ≡ 0 → IsNone (step_behind self.old.work self.old.begun) → self.new.to ≡ self.old.to }
     {
         if count > 0 {
             let before = self.read;
             self.read = before.saturating_add(count as u64);
             return tick(&mut self.to, before, self.read);
         }
-        say_step(&mut self.to, self.steps.step_behind(self.begun))
+        match self.work.step_behind(self.begun) {
+            Some(step) => say_step(&mut self.to, step),
+            None => Ok(()),
+        }
     }
 }
 
@@ -112,8 +115,8 @@ pub struct ToldPress<P: Drop, W: Drop> {
     /// Where it is heard, if anywhere.
     pub to: Option<W>,
     /// What there is to do.
-    steps: RunSteps,
-    /// How many layers' files were begun; a certificate is written in the same step as its layer.
+    work: Work,
+    /// How many files were begun; a certificate is written in the same step as its layer, and not counted.
     begun: usize,
     /// How many bytes of the file at hand were written, where that is no standard output.
     written: Option<u64>,
@@ -121,15 +124,15 @@ pub struct ToldPress<P: Drop, W: Drop> {
 
 impl<P: Press + Drop, W: Write + Drop> ToldPress<P, W> {
     /// The press, and where it says what is made with it.
-    pub fn new(press: P, to: Option<W>, steps: RunSteps) -> Self
+    pub fn new(press: P, to: Option<W>, work: Work) -> Self
         ensures press { result.press ≡ press }
         ensures to { result.to ≡ to }
-        ensures steps { result.steps ≡ steps }
+        ensures work { result.work ≡ work }
     {
         ToldPress {
             press,
             to,
-            steps,
+            work,
             begun: 0,
             written: None,
         }
@@ -140,7 +143,7 @@ impl<P: Drop, W: Write + Drop> ToldPress<P, W> {
     /// Clears the line, where it is heard. A fault may be passed by: it changes nothing of what is made.
     pub fn clear(&mut self) -> fmt::Result
         ensures press { self.new.press ≡ self.old.press }
-        ensures steps { self.new.steps ≡ self.old.steps }
+        ensures work { self.new.work ≡ self.old.work }
         ensures begun { self.new.begun ≡ self.old.begun }
         ensures count { self.new.written ≡ self.old.written }
         ensures cleared { OnOk result (IsHeard W.contents self.old.to self.new.to CLEAR.now) }
@@ -162,10 +165,9 @@ impl<P: Drop, W: Write + Drop> ToldPress<P, W> {
             self.begun = self.begun.saturating_add(1);
         }
         self.written = Some(0);
-        let number = self.steps.number_of_writing(self.begun);
         let step = RunStep {
-            number,
-            steps: self.steps,
+            number: self.work.number_of_writing(self.begun),
+            work: self.work,
             doing: Doing::Writing(name),
         };
         say_step(&mut self.to, step)

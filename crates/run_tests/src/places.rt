@@ -3,7 +3,7 @@
 use crate::memory_runs::{NEVER, add_file, words_of};
 use place_runs::{run, run_to_end};
 use report_text::LayerRow;
-use run_steps::{RunSteps, ToldPress, ToldShelf};
+use run_steps::{ToldPress, ToldShelf, Work};
 use runs::Status;
 use shelf_io::{MemPress, MemShelf};
 use std::alloc::{AllocError, Global};
@@ -359,13 +359,13 @@ fn said(to: &Option<Vec<u8>>) -> &[u8] {
 /// Whether a run over one point says what it is doing, and leaves nothing of it.
 fn says_steps(alloc: Global, lines: &[u8]) -> Result<bool, AllocError> {
     let words = words_of(alloc, &["--tin", "s.json", "p.wkt"])?;
-    let steps = RunSteps {
+    let work = Work::CarryLayers {
         layers: 1,
         are_written: false,
     };
     let shelf = shelf_of(alloc, &[("p.wkt", "POINT (6 4)")])?;
-    let mut shelf = ToldShelf::new(shelf, Some(Vec::new(alloc)), steps);
-    let mut press = ToldPress::new(MemPress::new(alloc, 64), Some(Vec::new(alloc)), steps);
+    let mut shelf = ToldShelf::new(shelf, Some(Vec::new(alloc)), work);
+    let mut press = ToldPress::new(MemPress::new(alloc, 64), Some(Vec::new(alloc)), work);
     let end = run_to_end(alloc, &words, &mut shelf, &mut press);
     Ok(end.status == Status::Same && said(&shelf.to) == lines && said(&press.to) == CLEARED)
 }

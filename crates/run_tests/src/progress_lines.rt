@@ -1,19 +1,21 @@
 //! What a run says of what it is doing, and that it is the same run whether or not it is heard.
 
-use crate::memory_runs::{MIGRATE, NEVER, ran_over, words_of};
-use run_steps::{LastName, NotedPress, RunSteps, ToldPress, ToldShelf, making_text, say_line};
+use crate::memory_runs::{Files, MIGRATE, NEVER, ran_over, shelf_of, words_of};
+use job_words::read_words;
+use run_notes::work_for;
+use run_steps::{LastName, NotedPress, ToldPress, ToldShelf, Work, making_text, say_line};
 use runs::Status;
 use shelf_io::{MemPress, MemShelf, load, print};
 use std::alloc::{AllocError, Global};
 use std::io::{ErrorKind, Write};
 use std::test::Fail;
 use std::{fmt, io};
-use tin_texts::TRIANGLE;
+use tin_texts::{SQUARE, STILL, TRIANGLE};
 use whole_runs::run;
 
-/// The steps of a migration of this many layers.
-fn migration_of(layers: usize) -> RunSteps {
-    RunSteps {
+/// The work of a migration of this many layers.
+fn migration_of(layers: usize) -> Work {
+    Work::CarryLayers {
         layers,
         are_written: true,
     }
@@ -109,6 +111,133 @@ const SAID: &[Said] = &[
 #[test]
 fn a_run_says_what_it_is_doing(rt: HostRuntime) {
     assert_eq!(rt; first_other(rt.alloc(), SAID), Ok(None));
+}
+
+/// Words, the files that they find, how a run of them ends, and what is said of what is read and of what is made.
+type SaidOfJob = (
+    &'static [&'static str],
+    Files,
+    Status,
+    &'static [u8],
+    &'static [u8],
+);
+
+/// Whether a run of these words ends so, and says this.
+fn says_of_job(alloc: Global, row: &SaidOfJob) -> Result<bool, AllocError> {
+    let &(texts, files, wanted, read, made) = row;
+    let words = words_of(alloc, texts)?;
+    let job = read_words(alloc, &words).ok();
+    let work = work_for(job.as_ref(), true);
+    let mut shelf = ToldShelf::new(shelf_of(alloc, files)?, Some(Vec::new(alloc)), work);
+    let mut press = ToldPress::new(MemPress::new(alloc, 4096), Some(Vec::new(alloc)), work);
+    let status = run(alloc, &words, &mut shelf, &mut press);
+    Ok(status == wanted && said(&shelf.to) == read && said(&press.to) == made)
+}
+
+/// The number of the first job that ends otherwise or says something else, or none.
+fn first_other_job(alloc: Global, rows: &[SaidOfJob]) -> Result<Option<usize>, AllocError> {
+    for (number, row) in rows.iter().enumerate() {
+        if !says_of_job(alloc, row)? {
+            return Ok(Some(number));
+        }
+    }
+    Ok(None)
+}
+
+const VERIFY: [&str; 9] = [
+    "verify",
+    "--tin",
+    "s.json",
+    "--source",
+    "l.wkt",
+    "--written",
+    "w",
+    "--cert",
+    "c",
+];
+
+const VERIFIED: &[u8] =
+    b"\r\x1b[Ktinmove: step 1 of 6: reading s.json\r\x1b[Ktinmove: step 2 of 6: \
+     checking the triangulation\r\x1b[Ktinmove: step 3 of 6: reading l.wkt\r\x1b[Ktinmove: step 4 of 6: \
+     reading w\r\x1b[Ktinmove: step 5 of 6: reading c\r\x1b[Ktinmove: step 6 of 6: comparing";
+
+const WITHOUT_WRITTEN: &[u8] =
+    b"\r\x1b[Ktinmove: step 1 of 6: reading s.json\r\x1b[Ktinmove: step 2 of 6: \
+     checking the triangulation\r\x1b[Ktinmove: step 3 of 6: reading l.wkt\r\x1b[Ktinmove: step 4 of 6: reading w";
+
+const MOVED: &[u8] = b"\r\x1b[Ktinmove: step 1 of 5: reading t.json\r\x1b[Ktinmove: step 2 of 5: \
+     checking the triangulation\r\x1b[Ktinmove: step 3 of 5: reading in/list\r\x1b[Ktinmove: step 4 of 5: \
+     moving the points";
+
+const MOVED_CERT: &[u8] =
+    b"\r\x1b[Ktinmove: step 1 of 5: reading t.json\r\x1b[Ktinmove: step 2 of 5: \
+     checking the triangulation\r\x1b[Ktinmove: step 3 of 5: reading a.cert\r\x1b[Ktinmove: step 4 of 5: \
+     moving the points";
+
+const CHECKED: &[u8] = b"\r\x1b[Ktinmove: step 1 of 2: reading t.json\r\x1b[Ktinmove: step 2 of 2: \
+     checking the triangulation";
+
+const LIST_WRITTEN: &[u8] = b"\r\x1b[Ktinmove: step 5 of 5: writing o/list\r\x1b[K";
+
+const CERT_WRITTEN: &[u8] = b"\r\x1b[Ktinmove: step 5 of 5: writing o/a.cert\r\x1b[K";
+
+/// A verification with all files, and one without the written layer. Points that are moved, also out of a file whose
+/// name ends as that of a certificate, and points that are outside. A check, a made map, and words without a job.
+const JOBS: &[SaidOfJob] = &[
+    (
+        &VERIFY,
+        &[
+            ("s.json", SQUARE),
+            ("l.wkt", "POINT (5 2)"),
+            ("w", "POINT (105.001 102.001)"),
+            ("c", "tinmove certificate 1\n0\n"),
+        ],
+        Status::Same,
+        VERIFIED,
+        REFUSED,
+    ),
+    (
+        &VERIFY,
+        &[("s.json", SQUARE), ("l.wkt", "POINT (5 2)")],
+        Status::Read,
+        WITHOUT_WRITTEN,
+        REFUSED,
+    ),
+    (
+        &["heights", "--tin", "t.json", "--out", "o", "in/list"],
+        &[("t.json", STILL), ("in/list", "5 0 10")],
+        Status::Same,
+        MOVED,
+        LIST_WRITTEN,
+    ),
+    (
+        &["heights", "--tin", "t.json", "--out", "o", "a.cert"],
+        &[("t.json", STILL), ("a.cert", "5 0 10")],
+        Status::Same,
+        MOVED_CERT,
+        CERT_WRITTEN,
+    ),
+    (
+        &["heights", "--tin", "t.json", "--out", "o", "in/list"],
+        &[("t.json", STILL), ("in/list", "50 0 10")],
+        Status::Outside,
+        MOVED,
+        REFUSED,
+    ),
+    (
+        &["check", "--tin", "t.json"],
+        &[("t.json", TRIANGLE)],
+        Status::Same,
+        CHECKED,
+        REFUSED,
+    ),
+    (&["make", "1"], &[], Status::Same, b"", REFUSED),
+    (&["check"], &[], Status::Words, b"", REFUSED),
+];
+
+#[test]
+fn a_run_says_the_steps_of_its_job(rt: HostRuntime) {
+    assert_eq!(rt; first_other_job(rt.alloc(), JOBS), Ok(None));
 }
 
 /// A place to write to that takes nothing.

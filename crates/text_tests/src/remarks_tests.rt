@@ -307,6 +307,22 @@ tinmove: nothing was written; carry smaller layers, or one a run
 ",
     ),
     (
+        Refusal::Check(CheckFault::NoMemory),
+        "t.json",
+        None,
+        "tinmove: t.json: memory ran out
+tinmove: nothing was written; carry with a smaller triangulation
+",
+    ),
+    (
+        Refusal::Check(CheckFault::NoMemory),
+        "",
+        None,
+        "tinmove: memory ran out
+tinmove: nothing was written; carry with a smaller triangulation
+",
+    ),
+    (
         Refusal::Tin(TinFault::NoHorizontal),
         "t.json",
         None,

@@ -11,7 +11,7 @@ use large_blocks::keep_large_blocks;
 use outputs::outputs_of;
 use run_notes::{
     KindNotes, Owner, Usage, Words, owners_of, say_border, say_degrees, say_layers, say_meetings,
-    say_owners, say_refusal, say_unwritten, steps_of, words_of,
+    say_owners, say_refusal, say_unwritten, words_of, work_for,
 };
 use run_steps::{LastName, NotedPress, ToldPress, ToldShelf, making_text, say_line};
 use runs::Status;
@@ -106,8 +106,8 @@ fn run_on_files(rt: &HostRuntime, words: &Words) -> Status {
     if let Some(job) = job {
         say_before(rt, job, &outputs, terminal);
     }
-    let steps = steps_of(job, true);
-    let mut shelf = ToldShelf::new(shelf, terminal, steps);
+    let work = work_for(job, true);
+    let mut shelf = ToldShelf::new(shelf, terminal, work);
     let kinds = NotedPress {
         press,
         notes: KindNotes::new(rt, job),
@@ -116,7 +116,7 @@ fn run_on_files(rt: &HostRuntime, words: &Words) -> Status {
         press: kinds,
         notes: LastName::new(rt.alloc()),
     };
-    let mut press = ToldPress::new(names, terminal, steps);
+    let mut press = ToldPress::new(names, terminal, work);
     let RunEnd {
         status,
         report,

@@ -5,7 +5,7 @@ use crate::help::FAULTS_USAGE;
 use fault_runs::{FaultRefusal, FaultRunEnd, Wanted, check_words, read_wanted, run_to_end};
 use job_words::Job;
 use run_notes::{
-    Usage, Words, say_border, say_degrees, say_many_faults, say_refusal, say_unwritten, steps_of,
+    Usage, Words, say_border, say_degrees, say_many_faults, say_refusal, say_unwritten, work_for,
 };
 use run_steps::{ToldPress, ToldShelf};
 use runs::{Refusal, Status};
@@ -56,9 +56,9 @@ pub fn list_on_files(rt: &HostRuntime, words: &Words) -> Status {
     };
     let terminal = Some(rt.stderr()).filter(|to| to.is_terminal());
     let job = check_of(rt.alloc(), &words.words);
-    let steps = steps_of(job.as_ref(), false);
-    let mut shelf = ToldShelf::new(shelf, terminal, steps);
-    let mut press = ToldPress::new(press, terminal, steps);
+    let work = work_for(job.as_ref(), false);
+    let mut shelf = ToldShelf::new(shelf, terminal, work);
+    let mut press = ToldPress::new(press, terminal, work);
     let FaultRunEnd {
         status,
         sound,

@@ -13,8 +13,8 @@ use job_words::Job;
 use migrate_mode::Migration;
 use place_runs::{PlaceRunEnd, Request, read_request, run_to_end};
 use run_notes::{
-    Usage, Words, left_out_kinds, say_degrees, say_layers, say_refusal, say_unwritten, steps_of,
-    words_of,
+    Usage, Words, left_out_kinds, say_degrees, say_layers, say_refusal, say_unwritten, words_of,
+    work_for,
 };
 use run_steps::{ToldPress, ToldShelf};
 use runs::{Refusal, Status};
@@ -69,9 +69,9 @@ fn run_on_files(rt: &HostRuntime, words: &Words) -> Status {
     };
     let terminal = Some(rt.stderr()).filter(|to| to.is_terminal());
     let job = job_of(rt.alloc(), &words.words);
-    let steps = steps_of(job.as_ref(), false);
-    let mut shelf = ToldShelf::new(shelf, terminal, steps);
-    let mut press = ToldPress::new(press, terminal, steps);
+    let work = work_for(job.as_ref(), false);
+    let mut shelf = ToldShelf::new(shelf, terminal, work);
+    let mut press = ToldPress::new(press, terminal, work);
     let PlaceRunEnd {
         status,
         refusal,
