@@ -79,8 +79,7 @@ The report goes to standard output.
 exit status:
   0  all is written and nothing changed; or the triangulation is sound;
      or the written layer is certified; or the points are written
-  1  all is written, and the report lists at least one changed pair of pieces,
-     or with --sides a point that changed its side, or a ring that turned
+  1  all is written, and at least one change or side is listed
   2  the words are not understood
   3  the triangulation is refused
   4  a layer is refused
