@@ -389,7 +389,7 @@ refused 3 'list 1\ndecide 1 x kept\n' 'tinledger: bad:2:10: no number in digits 
 refused 3 '\n\nlist  1\n' 'tinledger: bad:3:5: two spaces in a row, or one at an end of the line' 'one space is between each two words'
 refused 3 'clear 1 \n' 'tinledger: bad:1:8: two spaces in a row'
 refused 3 'list 1\r\n' 'tinledger: bad:1:7: a carriage return at the end of the line' "sed -i 's/\\r\$//'"
-refused 3 '\0357\0273\0277list 1\n' 'tinledger: bad:1:1: a byte order mark' "sed -i '1s/^...//'"
+refused 3 '\0357\0273\0277list 1\n' 'tinledger: bad:1:1: a byte order mark' "sed -i 's/^\xef\xbb\xbf//'"
 refused 3 'list\t1\n' 'tinledger: bad:1:5: a tab or another control character'
 refused 3 'enter r\0377.txt\n' 'tinledger: bad:1:8: bytes that are no UTF-8'
 refused 3 'lists 1\n' 'tinledger: bad:1:1: no word of a line: lists' 'see tinledger --help'
