@@ -14,7 +14,7 @@ import sys
 import tempfile
 
 TOP = os.path.dirname(os.path.dirname(os.path.abspath(__file__)))
-CHAPTERS = ("Commands", "Changes on the map", "Decisions", "Recipes")
+CHAPTERS = ("Commands", "Changes on the map", "Certificates", "Decisions", "Recipes")
 MARK = "@@@ the command ends"
 
 
