@@ -7,7 +7,7 @@ All other values stay, and the rows keep their order. Values are parted by comma
 comma, by semicolons. A blank line stays, and is no row. Lines that tinmove prints name points.txt: its line 1
 is the first row behind the header.
 The status is that of tinmove, and 2 where a word or the table is refused; RESULT is then as it was.
-Needs nothing but Python and tinmove, or the program that TINMOVE names.
+Needs nothing but Python, inserted_vertices.py beside it, and tinmove, or the program that TINMOVE names.
 """
 import csv
 import io

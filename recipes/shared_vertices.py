@@ -8,7 +8,7 @@ a boundary point becomes a vertex of its parcel. FILEs are layers of neighbours:
 and they are not written. No vertex moves. A vertex that is at most MM millimetres (1) from a segment of
 another geometry or of its own, and farther than that from its ends, is put into the segment; where both
 ends have heights it gets the height between them. The layers are written into FOLDER under their names,
-once all have been read. Needs nothing but Python.
+once all have been read. Needs nothing but Python, and inserted_vertices.py beside it.
 """
 import argparse
 import json
