@@ -74,6 +74,9 @@ def measured(words):
         child.returncode = os.waitstatus_to_exitcode(status)
     return usage.ru_utime + usage.ru_stime, usage.ru_maxrss, child.returncode, open("report", encoding="utf-8").read()
 
+unknown = set(wanted) - {it for row in ROWS for it in row[:2]}
+if unknown:
+    sys.exit("run.sh: no such row: " + ", ".join(sorted(unknown)))
 base = yardstick()
 print(f"yardstick: json.load of 19 MB of triangulation {base:.2f} s; {os.cpu_count()} processors")
 print(f"{'row':36} {'seconds':>8} {'MiB':>6} {'status':>6} {'changes':>9} {'ratio':>7}")

@@ -33,6 +33,8 @@ import json, math, os, random, subprocess, sys, time
 
 program, tries, wanted, compared = sys.argv[1], int(sys.argv[2]), sys.argv[3].split(","), sys.argv[4].split(",")
 rings_wanted, older = int(sys.argv[5]), sys.argv[6]
+if set(wanted) - {"parcels", "commune", "points", "rings"}:
+    sys.exit("sides.sh: no such layer among " + ", ".join(wanted))
 MOST = {"parcels": 1.4, "commune": 1.6, "points": 1.8}  # of the run without --sides
 MOST_SECONDS = {"rings": 150}
 slow = []

@@ -74,18 +74,20 @@ def carried(tin, source, name, options):
         return Case(tin, source, written.read(), cert.read(), name, options)
 
 
-# The constants of the tests, their layers, and the files of their verifications.
+# The constants of the tests and of the texts that they share, their layers, and the files of their verifications.
 def tests():
-    texts = {name: open(f"{top}/crates/run_tests/src/{name}.rt").read()
-             for name in ("memory_runs", "certificates", "altered_certificates")}
+    sources = [("tin_texts", "lib"), *(("run_tests", it) for it in ("memory_runs", "certificates", "altered_certificates"))]
+    texts = {name: open(f"{top}/crates/{crate}/src/{name}.rt").read() for crate, name in sources}
     string = r'r#"(?:[^"]|"(?!#))*"#|"(?:[^"\\]|\\.)*"'
 
     def value(raw):
+        if raw.startswith("concat!"):
+            return b"".join(map(value, re.findall(string, raw)))
         return (raw[3:-2] if raw.startswith("r#") else ast.literal_eval(raw) if raw[0] == '"' else consts[raw].decode()).encode()
 
     consts = {}
     for text in texts.values():
-        for name, raw in re.findall(rf"const (\w+): &str =\s*({string});", text):
+        for name, raw in re.findall(rf"const (\w+): &str =\s*((?:{string})|concat!\((?:\s*(?:{string}),?)*\s*\));", text):
             consts[name] = value(raw)
     row = rf'\(\s*"([^"]*)",\s*({string}|\w+),?\s*\)'
     for files in re.findall(rf"&VERIFY,\s*&\[((?:\s*{row},?)*)\s*\]", texts["certificates"]):
@@ -244,6 +246,8 @@ work = tempfile.TemporaryDirectory()
 in_folder()
 TESTS = list(tests())
 BASES = [it for it in TESTS if answers(it)[2][0] == 0]
+if len(BASES) < 10:
+    sys.exit("no certificates were found in the tests, or the program certifies none of them")
 counts, bad = collections.Counter(), 0
 with multiprocessing.Pool(initializer=in_folder) as pool:
     for group, found in (("tests", pool.imap_unordered(answers, TESTS, 16)), ("mutations", pool.imap_unordered(one, range(runs), 16))):

@@ -174,6 +174,12 @@ holds 'no such text in the help: built, and the program asked' same "$(calls)" 4
 holds 'no such text in the help: status of the program' same "$status" 0
 checkout
 
+# Of ten words the number begins with a 1 too: the program answers them.
+run ./tinmove help migrate a b c d e f g h
+holds 'help with nine words behind it: the program answers' has "$out" '^<help>$'
+holds 'help with nine words behind it: status of the program' same "$status" 5
+checkout
+
 # Without rt.
 PATH="$work/no rt" ./tinmove check --tin a >"$work/out.txt" 2>"$work/err.txt"
 holds 'no rt: status' same $? 125
@@ -453,6 +459,23 @@ PATH="$work/no flock" ./tinmove check >"$out" 2>"$err" </dev/null
 holds 'neither flock nor Python: status' same $? 125
 holds 'neither flock nor Python: says so' has "$err" 'neither flock nor python3'
 echo 'first' >crates/tinmove/src/main.rt
+
+# A launcher that builds by rt leaves the copy of the sources to the one that builds from it.
+checkout
+mkdir -p crates/tinplaces/out/incremental
+# shellcheck disable=SC2016
+echo '[ $name != mid ] || for _ in $(seq 600); do [ ! -e "$WORK/other ended" ] || break; sleep 0.1; done' >"$work/lib_does"
+(PATH=$with_rt ./tinmove check >"$work/out1.txt" 2>"$work/err1.txt" </dev/null) &
+for _ in $(seq 300); do has "$work/calls" 'lib mid' && break; sleep 0.1; done
+run ./tinplaces check
+: >"$work/other ended"
+wait
+rm "$work/lib_does"
+holds 'one by rt beside a build: runs' has "$out" 'said places'
+holds 'one by rt beside a build: the build ends well' has "$work/out1.txt" 'said first'
+holds 'one by rt beside a build: no copy of the sources is left' test ! -e "$place/text"
+checkout
+run ./tinmove check
 
 # A checkout that cannot be written: what is built of its sources runs, and nothing older.
 echo 'sixth' >crates/tinmove/src/main.rt

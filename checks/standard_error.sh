@@ -143,6 +143,10 @@ echo 'POINT (7.4386 46.9511)' >degrees.wkt
 says 5 migrate --tin t.json --out o degrees.wkt -- "the layer's coordinates look like degrees"
 echo 'POINT (200001 600001)' >exchanged.wkt
 says 5 migrate --tin t.json --out o exchanged.wkt -- 'with x and y exchanged the whole layer is where the triangles are: are they exchanged?'
+tin '[0,0,0,0],[1000,0,1000,0],[0,1000,0,1000]' '[0,1,2]' >diagonal.json
+echo 'POINT (900 800)' >beyond.wkt
+says 5 migrate --tin diagonal.json --out o beyond.wkt -- 'not wholly inside the triangles'
+grep -q 'exchanged' err && { echo 'asked for an exchange of a layer that is in the box as it stands'; bad=1; }
 
 # points with heights
 heights() {
@@ -270,6 +274,9 @@ says 7 migrate --tin t.json --out file/o a.wkt -- 'file/o/a.wkt: could not be wr
 "$program" make 1 >/dev/full 2>err
 [ $? -eq 7 ] || { echo 'a full standard output is no status 7'; bad=1; }
 grep -qF 'standard output: could not be written' err || { echo 'a full standard output is not named'; bad=1; }
+"$program" --help >/dev/full 2>err
+[ $? -eq 7 ] || { echo 'a help that is not written is no status 7'; bad=1; }
+grep -qF 'standard output: could not be written' err || { echo 'a help that is not written is not said'; bad=1; }
 if [ "$(id -u)" -ne 0 ]; then
     mkdir -p shut && chmod a-w shut
     "$program" migrate --tin t.json --out shut a.wkt >out 2>err
@@ -322,6 +329,9 @@ says 0 --tin t.json a.wkt --
 "$program" --tin t.json a.wkt >/dev/full 2>err
 [ $? -eq 7 ] || { echo 'a full standard output of tinplaces is no status 7'; bad=1; }
 grep -qF 'standard output: could not be written' err || { echo 'a full standard output of tinplaces is not named'; bad=1; }
+"$program" --help >/dev/full 2>err
+[ $? -eq 7 ] || { echo 'a help of tinplaces that is not written is no status 7'; bad=1; }
+grep -qF 'standard output: could not be written' err || { echo 'a help of tinplaces that is not written is not said'; bad=1; }
 if command -v script >/dev/null; then
     on_terminal --tin t.json a.wkt
     for part in 'step 1 of 4: reading t.json' 'step 2 of 4: checking the triangulation' 'step 3 of 4: reading a.wkt' \
@@ -379,7 +389,7 @@ refused 3 'list 1\ndecide 1 x kept\n' 'tinledger: bad:2:10: no number in digits 
 refused 3 '\n\nlist  1\n' 'tinledger: bad:3:5: two spaces in a row, or one at an end of the line' 'one space is between each two words'
 refused 3 'clear 1 \n' 'tinledger: bad:1:8: two spaces in a row'
 refused 3 'list 1\r\n' 'tinledger: bad:1:7: a carriage return at the end of the line' "sed -i 's/\\r\$//'"
-refused 3 '\0357\0273\0277list 1\n' 'tinledger: bad:1:1: a byte order mark' "sed -i '1s/^...//'"
+refused 3 '\0357\0273\0277list 1\n' 'tinledger: bad:1:1: a byte order mark' "sed -i 's/^\xef\xbb\xbf//'"
 refused 3 'list\t1\n' 'tinledger: bad:1:5: a tab or another control character'
 refused 3 'enter r\0377.txt\n' 'tinledger: bad:1:8: bytes that are no UTF-8'
 refused 3 'lists 1\n' 'tinledger: bad:1:1: no word of a line: lists' 'see tinledger --help'
@@ -398,6 +408,9 @@ says 10 a.wkt script -- 'tinledger: no line was obeyed'
 [ $? -eq 7 ] || { echo 'a full standard output of tinledger is no status 7'; bad=1; }
 grep -qF 'tinledger: standard output: could not be written' err || { echo 'a full standard output of tinledger is not named'; bad=1; }
 grep -qF 'tinledger: every line was obeyed' err || { echo 'tinledger does not say that all was obeyed'; bad=1; }
+"$program" --help >/dev/full 2>err
+[ $? -eq 7 ] || { echo 'a help of tinledger that is not written is no status 7'; bad=1; }
+grep -qF 'tinledger: standard output: could not be written' err || { echo 'a help of tinledger that is not written is not said'; bad=1; }
 
 echo "$count runs, each twice"
 [ "$bad" -eq 0 ] && echo 'standard error says all lines'

@@ -42,7 +42,7 @@ def read_json(data, where):
         top, end = Reader().node(text, re.match(mark + "[ \t\r\n]*", text).end())
         need(not text[end:].strip(" \t\r\n"), where, "json")
         return top
-    except (ValueError, StopIteration):
+    except (ValueError, StopIteration, RecursionError):
         need(False, where, "json")
 def only(node, name, where, *kinds):  # the member of this name, of this type, or where there is no type perhaps None
     found = [it for key, it in node.value if key == name] if type(node.value) is tuple else []
@@ -187,14 +187,19 @@ job, paths, edits = words.parse_args(), [], []
 tin = read_tin(open(job.tin, "rb").read())
 source, written, cert = (open(name, "rb").read() for name in (job.source, job.written, job.cert))
 if job.source.lower().endswith(".wkt"):
-    read_wkt(source.decode("latin-1"))
+    try:
+        read_wkt(source.decode("latin-1"))
+    except RecursionError:
+        need(False, LAYER, "deep")
 else:
     read_geojson(read_json(source, LAYER), ["FeatureCollection", "Feature", *GEOMETRIES])
-lists, wanted, end = deque(read_lists(cert.split(b"\n"))), b"", 0
+lists, parts, end = deque(read_lists(cert.split(b"\n"))), [], 0
 need(len(lists) == sum(max(1, len(it) - 1) for it in paths), CERTIFICATE, "count")
 runs = [images_of(tin, path, places, lists) for path, places in enumerate(paths)]
 for start, behind, text in sorted(edits, key=lambda it: it[:2]) + [(len(source), 0, lambda runs: "")]:
-    wanted, end = wanted + source[end:start] + text(runs).encode(), behind
+    parts += [source[end:start], text(runs).encode()]
+    end = behind
+wanted = b"".join(parts)
 at = next((i for i, (one, other) in enumerate(zip(wanted, written)) if one != other), min(len(wanted), len(written)))
 need(wanted == written, CERTIFICATE, f"differs at {at}")
 print("certified")

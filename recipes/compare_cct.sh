@@ -16,11 +16,11 @@ trap 'exit 143' TERM
 case $points in
     *.[wW][kK][tT])
         mode=migrate count=2 fill='-z 0 -t 0' form='POINT (x y)'
-        numbers() { sed -n 's/^ *POINT *(\(.*\)).*/\1/p' "$1"; }
+        numbers() { sed -n 's/^ *POINT *(\(.*\)).*/\1/p' <"$1"; }
         ;;
     *)
         mode=heights count=3 fill='-t 0' form='x y z'
-        numbers() { awk 'NF { print $1, $2, $3 }' "$1"; }
+        numbers() { awk 'NF { print $1, $2, $3 }' <"$1"; }
         ;;
 esac
 # PROJ reads blanks in a name as the end of a word, and so gets a name without any.

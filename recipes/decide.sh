@@ -7,7 +7,8 @@
 #        decide.sh open DB FOLDER...                       prints what is not, as CSV
 # FOLDER is a commune's: carry writes the carried layers there, report.txt, run.txt (the number of the run)
 # and changes.csv, a row for each change with its place on the map, its gap, the features of both sides
-# (numbers, and handles of a drawing) and an empty column decision.
+# (numbers, and handles of a drawing) and an empty column decision. Where all was carried so before,
+# changes.csv stays as a person filled it in.
 # CONDITION is one of sqlite3 on the columns of changes.csv, as "gap_mm <= 1 AND now = 'apart'". TABLE.csv
 # has the columns change and decision (kept, mended, or empty), as changes.csv filled in by hand.
 # What was decided stays: it is counted as settled. Needs sqlite3 and jq (Debian: sqlite3, jq), and
@@ -35,13 +36,16 @@ trap 'exit 143' TERM
 obey() {
     ended=0
     (cd -- "$room" && exec "$ledger" "$db" script) >"$room/replies" || ended=$?
-    [ "$ended" -eq 0 ] || refuse "$(head -n 1 "$room/replies")" "$ended"
+    # After replies to lines that were obeyed the last line says why it stopped.
+    [ "$ended" -eq 0 ] || refuse "$(tail -n 1 "$room/replies")" "$ended"
 }
 run_of() { # the number of the run of a folder
     number=$(cat -- "$1/run.txt" 2>/dev/null) || refuse "$1 has no run: carry it first" 6
     case $number in '' | *[!0-9]*) refuse "$1/run.txt has no number of a run" 6 ;; esac
     printf '%s' "$number"
 }
+# Obeys the room's table over a database in memory, without what a person's .sqliterc sets.
+query() { (cd -- "$room" && exec sqlite3 -batch -bail -init /dev/null :memory: <table); }
 # Counts the replies to decisions.
 count() { sort "$room/replies" | uniq -c | sed 's/^ *\([0-9]*\) \(.*\)/\2: \1/'; }
 
@@ -50,12 +54,13 @@ carry() {
     tin=$1 folder=$2
     shift 2
     tinmove=$(program tinmove "${TINMOVE:-tinmove}") tinplaces=$(program tinplaces "${TINPLACES:-tinplaces}")
-    status=0
-    "$tinmove" migrate --tin "$tin" --out "$folder" -- "$@" >"$room/report.txt" || status=$?
-    [ "$status" -le 1 ] || refuse "$(head -n 1 "$room/report.txt")" "$status"
+    # The places first: where FOLDER holds the layers, migrate replaces them.
     status=0
     "$tinplaces" --tin "$tin" -- "$@" >"$room/places.geojson" 2>"$room/said" || status=$?
     [ "$status" -le 1 ] || { cat "$room/said" >&2; refuse "$(head -n 1 "$room/places.geojson")" "$status"; }
+    status=0
+    "$tinmove" migrate --tin "$tin" --out "$folder" -- "$@" >"$room/report.txt" || status=$?
+    [ "$status" -le 1 ] || refuse "$(head -n 1 "$room/report.txt")" "$status"
     jq -r '["change", "was", "now", "gap_mm", "x", "y", "first_layer", "first", "first_feature",
             "second_layer", "second", "second_feature", "decision"],
         (.features[] | .geometry.coordinates as [$x, $y] | .properties
@@ -75,6 +80,11 @@ carry() {
     cat "$room/replies"
     run=$(sed -n 's/^entered \([0-9]*\) .*/\1/p; s/^known //p' "$room/replies")
     [ -n "$run" ] || refuse 'the ledger is full' 9
+    # A table that a person may have filled in stays where the folder is of this run already.
+    if grep -q '^known ' "$room/replies" && [ -e "$folder/changes.csv" ] &&
+        [ "$(cat -- "$folder/run.txt" 2>/dev/null)" = "$run" ] && cmp -s -- "$room/report.txt" "$folder/report.txt"; then
+        return 0
+    fi
     cp -- "$room/report.txt" "$room/changes.csv" "$folder"
     printf '%s\n' "$run" >"$folder/run.txt"
 }
@@ -94,7 +104,7 @@ take() {
     printf '%s\n' 'CREATE TABLE changes (change INTEGER, was TEXT, now TEXT, gap_mm INTEGER, x REAL, y REAL, first_layer TEXT, first TEXT, first_feature TEXT, second_layer TEXT, second TEXT, second_feature TEXT, decision TEXT);' \
         '.import --csv --skip 1 changes.csv changes' '.separator " "' >"$room/table"
     printf "SELECT change, '%s' FROM changes WHERE (%s\n) ORDER BY change;\n" "$2" "$3" >>"$room/table"
-    (cd -- "$room" && sqlite3 -batch -bail :memory: <table) >"$room/list" || refuse "the condition is none of sqlite3: $3"
+    query >"$room/list" || refuse "the condition is none of sqlite3: $3"
     decide "$run"
 }
 
@@ -104,7 +114,7 @@ hand() {
     cp -- "$2" "$room/hand.csv" || refuse "$2: no file" 6
     printf '%s\n' '.import --csv hand.csv hand' '.separator " "' \
         "SELECT change, decision FROM hand WHERE trim(decision) <> '' ORDER BY CAST(change AS INTEGER);" >"$room/table"
-    (cd -- "$room" && sqlite3 -batch -bail :memory: <table) >"$room/list" || refuse "$2 has no columns change and decision" 4
+    query >"$room/list" || refuse "$2 has no columns change and decision" 4
     wrong=$(grep -n -v -x -E '(0|[1-9][0-9]*) (kept|mended)' "$room/list" | head -n 1 || true)
     [ -z "$wrong" ] || refuse "$2: change and decision are '${wrong#*:}', and not a number and kept or mended" 4
     decide "$run"
@@ -141,7 +151,7 @@ open() {
          FROM names JOIN ledger.pairs USING (run) WHERE verdict = 'undecided' ORDER BY run, place;" >"$room/table"
     echo 'folder,run,place,was,now,first,second'
     status=0
-    (cd -- "$room" && exec sqlite3 -batch -bail :memory: <table) || status=$?
+    query || status=$?
     # A reader that has seen enough ends sqlite3 by a signal.
     [ "$status" -eq 0 ] || [ "$status" -gt 128 ] || refuse "sqlite3 does not read $db" 10
 }

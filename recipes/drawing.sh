@@ -4,6 +4,7 @@
 # GDAL writes areas as HATCH, which tinmove does not read; -nlt MULTILINESTRING writes all their rings
 # as polylines. Paths with heights are LINEs while they are carried, and polylines in space again. A
 # drawing has no columns: those of the layer are left out. Where the drawing is refused, it is kept.
+# A layer whose kind is one with arcs is refused: GDAL would make steps of 4 degrees of them.
 # Needs ogr2ogr (Debian: gdal-bin), for heights ezdxf (python3-ezdxf), and tinmove, or the program that
 # TINMOVE names. Status 0 and 1 are those of tinmove; after any other one there is no RESULT.
 set -eu
@@ -27,7 +28,11 @@ case $layer in -*) refuse "a layer whose name begins with - cannot be named to o
 
 words='-nlt MULTILINESTRING'
 kind=$(ogrinfo -ro -so "$source" "$layer" 2>/dev/null | sed -n 's/^Geometry: //p')
-case $kind in *Point*) words= ;; esac
+case $kind in
+    *Point*) words= ;;
+    *Curve* | *'Circular String'* | Surface | *' Surface')
+        refuse "$source, layer $layer: $kind: make straight pieces first, by ogr2ogr -nlt CONVERT_TO_LINEAR" 4 ;;
+esac
 # A row without a geometry is not drawn, and has no other failure; a column is not created.
 # shellcheck disable=SC2086
 ogr2ogr -q -f DXF $words -explodecollections -skipfailures "$folder/$name" "$source" "$layer" 2>"$folder/said" || true

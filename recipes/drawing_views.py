@@ -5,10 +5,11 @@ usage: drawing_views.py BEFORE.dxf CARRIED.dxf RESULT.dxf
 
 tinmove leaves the header's extents, the VPORT of the screen and the VIEWPORTs of layouts of paper as
 they were, so a carried drawing opens on an empty place. Here the extents are those of the carried
-entities, and each view is moved by as much as the middle of all entities moved. Of a text its place
-counts. A view needs no millimetres. An object GEODATA names the old frame and a place in it, by which
-some programs put the drawing on a map: it is taken off, and that is said. Status 2: the words or a drawing are refused, and nothing is
-written. Needs ezdxf (Debian: python3-ezdxf).
+entities, and each view is moved by as much as the middle of all entities moved. A layout's own view
+of its paper, the VIEWPORT with the id 1, stays. Of a text its place counts. A view needs no
+millimetres. An object GEODATA names the old frame and a place in it, by which some programs put the
+drawing on a map: it is taken off, and that is said. Status 2: the words or a drawing are refused,
+and nothing is written. Needs ezdxf (Debian: python3-ezdxf).
 """
 import sys
 
@@ -36,6 +37,8 @@ def main():
         if layout.name == "Model":
             continue
         for port in layout.query("VIEWPORT"):
+            if port.dxf.get("id", 2) == 1:
+                continue
             port.dxf.view_center_point = Vec2(port.dxf.view_center_point) + Vec2(shift)
             views += 1
     geodata = carried.modelspace().get_geodata()

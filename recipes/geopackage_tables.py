@@ -172,10 +172,24 @@ def add_frame(data, number):
     return number
 
 
+def drop_triggers(data, table):
+    """Drops the triggers of a table besides those of its spatial index, and returns their texts."""
+    rows = data.execute(
+        "SELECT name, sql FROM sqlite_master WHERE type = 'trigger' AND lower(tbl_name) = lower(?)"
+        " AND substr(name, 1, 6) <> 'rtree_' ORDER BY rowid",
+        (table,),
+    ).fetchall()
+    for name, _ in rows:
+        data.execute(f"DROP TRIGGER {quoted(name)}")
+    return [text for _, text in rows]
+
+
 def put_back(data, layers, texts, carried, frame):
     """Puts the carried geometries into the tables, and the frame and the extent."""
     for layer, rows, lines in zip(layers, texts, carried):
         boxes = []
+        # Such as set the date of an edit would change other columns.
+        triggers = drop_triggers(data, layer.table)
         for (fid, text, _), line in zip(rows, lines):
             if not text:
                 continue
@@ -186,6 +200,8 @@ def put_back(data, layers, texts, carried, frame):
                 f"UPDATE {quoted(layer.table)} SET {quoted(layer.column)} = ? WHERE {quoted(layer.key)} = ?",
                 (blob_of(geometry, frame), fid),
             )
+        for trigger in triggers:
+            data.execute(trigger)
         data.execute("UPDATE gpkg_geometry_columns SET srs_id = ? WHERE table_name = ?", (frame, layer.table))
         set_contents(data, layer.table, frame, boxes)
 
@@ -258,11 +274,12 @@ def items_of(data, schema, indexes):
 
 
 def rows_text(columns, schema, table, names):
-    """The query for all rows of a table without those of the layer of changes."""
-    # Of values that are equal the types have to be so too: 1 is not 1.0.
-    wanted = ", ".join(f"{quoted(it)}, typeof({quoted(it)})" for it in columns)
+    """The query for all rows of a table without those of the layer of changes, each with how often it is there."""
+    # Of values that are equal the types have to be so too: 1 is not 1.0. A column may have a collation by
+    # which other texts are equal.
+    wanted = ", ".join(f"{quoted(it)} COLLATE BINARY, typeof({quoted(it)})" for it in columns)
     own = f" WHERE table_name IS NOT '{CHANGES}'" if table.startswith("gpkg_") and "table_name" in names else ""
-    return f"SELECT {wanted} FROM {schema}.{quoted(table)}{own}"
+    return f"SELECT {wanted}, count(*) FROM {schema}.{quoted(table)}{own} GROUP BY {wanted}"
 
 
 def differences(data, layers):
@@ -283,3 +300,10 @@ def differences(data, layers):
             (count,) = data.execute(f"SELECT count(*) FROM ({one} EXCEPT {two})").fetchone()
             if count:
                 yield f"{table}: {count} rows of {file} are not in the other"
+        if table in OTHER_COLUMNS:
+            old_frames, new_frames = (
+                dict(data.execute(f"SELECT table_name, srs_id FROM {schema}.{table}")) for schema in ("main", "result")
+            )
+            for name in sorted(set(old_frames) & set(new_frames) - set(carried) - {CHANGES}):
+                if old_frames[name] != new_frames[name]:
+                    yield f"{table}: {name} was not carried, and has another frame"

@@ -4,16 +4,21 @@
 usage: heights_table.py TIN.json TABLE.csv X Y HEIGHT RESULT.csv     X, Y and HEIGHT are names of columns
 
 All other values stay, and the rows keep their order. Values are parted by commas or, where the header has no
-comma, by semicolons. Lines that tinmove prints name points.txt: its line 1 is the first row behind the header.
+comma, by semicolons. A blank line stays, and is no row. Lines that tinmove prints name points.txt: its line 1
+is the first row behind the header.
 The status is that of tinmove, and 2 where a word or the table is refused; RESULT is then as it was.
-Needs nothing but Python and tinmove, or the program that TINMOVE names.
+Needs nothing but Python, inserted_vertices.py beside it, and tinmove, or the program that TINMOVE names.
 """
 import csv
+import io
 import os
 import re
 import subprocess
 import sys
 import tempfile
+
+sys.dont_write_bytecode = True
+from inserted_vertices import Refused, write_whole
 
 NUMERAL = re.compile(r"[-+.0-9eE]+")
 
@@ -35,7 +40,7 @@ def read(name):
     header = text.split("\n", 1)[0]
     delimiter = ";" if "," not in header and ";" in header else ","
     try:
-        rows = list(csv.reader(text.splitlines(keepends=True), delimiter=delimiter, strict=True))
+        rows = list(csv.reader(io.StringIO(text, newline=""), delimiter=delimiter, strict=True))
     except csv.Error as error:
         refuse(f"{name}: {error}")
     if not rows:
@@ -57,7 +62,8 @@ def main():
     tin, table, *columns, result = sys.argv[1:]
     rows, delimiter, feed = read(table)
     places = places_of(table, rows[0], columns)
-    for number, row in enumerate(rows[1:], 1):
+    points = [row for row in rows[1:] if row]
+    for number, row in enumerate(points, 1):
         if len(row) != len(rows[0]) or not all(NUMERAL.fullmatch(row[it].strip()) for it in places):
             refuse(f"{table}: row {number} behind the header has not one numeral in each of the three columns")
     program = os.environ.get("TINMOVE", "tinmove")
@@ -65,7 +71,7 @@ def main():
         program = os.path.abspath(program)
     with tempfile.TemporaryDirectory() as folder:
         with open(os.path.join(folder, "points.txt"), "w", encoding="utf-8") as file:
-            file.writelines(" ".join(row[it].strip() for it in places) + "\n" for row in rows[1:])
+            file.writelines(" ".join(row[it].strip() for it in places) + "\n" for row in points)
         words = [program, "heights", "--tin", os.path.abspath(tin), "--out", "moved", "points.txt"]
         try:
             status = subprocess.run(words, cwd=folder, check=False).returncode
@@ -74,17 +80,16 @@ def main():
         if status != 0:
             sys.exit(status)
         with open(os.path.join(folder, "moved", "points.txt"), encoding="utf-8") as file:
-            moved = file.read().split("\n")[: len(rows) - 1]
-    for row, point in zip(rows[1:], moved, strict=True):
+            moved = file.read().split("\n")[: len(points)]
+    for row, point in zip(points, moved, strict=True):
         for place, value in zip(places, point.split(), strict=True):
             row[place] = value
-    new = result + ".new"
+    text = io.StringIO(newline="")
+    csv.writer(text, delimiter=delimiter, lineterminator=feed).writerows(rows)
     try:
-        with open(new, "w", newline="", encoding="utf-8") as file:
-            csv.writer(file, delimiter=delimiter, lineterminator=feed).writerows(rows)
-        os.replace(new, result)
-    except OSError as error:
-        refuse(f"{result}: {error.strerror}")
+        write_whole(result, text.getvalue())
+    except Refused as refusal:
+        refuse(str(refusal))
 
 
 main()

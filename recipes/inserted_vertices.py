@@ -22,9 +22,10 @@ import sys
 import tempfile
 
 HEAD = "tinmove certificate 1"
-# A list of points in well-known text. Each point of a MULTIPOINT is a path of its own, also where it
-# has no brackets.
-LIST = re.compile(r"(?i:MULTIPOINT)(?:\s+[zZ])?\s*\([^()]*\)|\([^()]*\)")
+# A list of points in well-known text. A MULTIPOINT is one whole, since each of its points is a path
+# of its own, with brackets or without.
+LIST = re.compile(r"(?i:MULTIPOINT)(?:\s+[zZ])?\s*\([^()]*(?:\([^()]*\)[^()]*)*\)|\([^()]*\)")
+DIGIT = re.compile("[0-9]")
 POSITION = re.compile(r"\[[^\[\]]*\d[^\[\]]*\]")
 POSITIONS = re.compile(r"\[(?:\s*\[[^\[\]]*\d[^\[\]]*\]\s*,?)+\s*\]")
 POSITIONED = ("Point", "MultiPoint", "LineString", "MultiLineString", "Polygon", "MultiPolygon")
@@ -92,8 +93,11 @@ def without_in_wkt(text, pieces):
 
     def shortened(found):
         if found[0][0] != "(":
-            for _ in found[0].split(","):
-                pieces.point()
+            for member in found[0].split(","):
+                if DIGIT.search(member):  # EMPTY has no point
+                    pieces.point()
+            return found[0]
+        if not DIGIT.search(found[0]):  # members that are EMPTY, as of MULTILINESTRING
             return found[0]
         points = found[0][1:-1].split(",")
         places = pieces.kept(len(points))
@@ -110,7 +114,8 @@ class Geometries:
     def __init__(self, text):
         self.text, self.found = text, []
         self.decoder = json.JSONDecoder()
-        self.object(self.skip(0))
+        # A byte order mark may be before the object.
+        self.object(self.skip(1 if text.startswith("\ufeff") else 0))
         self.found.sort(key=lambda it: it[1])
 
     def skip(self, at):

@@ -1,14 +1,18 @@
 #!/bin/sh
 # Lists each feature of a layer that is not wholly inside the source triangles, with the parts that
-# are outside. tinmove names the first segment alone.
-# usage: outside.sh TIN.json SOURCE LAYER RESULT.geojson
+# are outside. tinmove names the first segment alone. With --inverse it is the target triangles, for
+# a layer that is carried back.
+# usage: outside.sh [--inverse] TIN.json SOURCE LAYER RESULT.geojson
+# SOURCE is a file that ogr2ogr reads: no .wkt, and no list of points.
 # RESULT is a collection without features where nothing is outside; one that is there is replaced.
 # GDAL computes in floating point, so what is outside by less than a thousandth of a millimetre may
 # be missing. Needs ogr2ogr with SpatiaLite (Debian: gdal-bin) and jq.
 # Status 2: a word or a file is refused, and RESULT is as it was.
 set -eu
 refuse() { printf 'outside.sh: %s\n' "$1" >&2; exit 2; }
-[ $# -eq 4 ] || refuse 'usage: outside.sh TIN.json SOURCE LAYER RESULT.geojson'
+frame=source
+if [ "${1-}" = --inverse ]; then frame=target; shift; fi
+[ $# -eq 4 ] || refuse 'usage: outside.sh [--inverse] TIN.json SOURCE LAYER RESULT.geojson'
 tin=$1 source=$2 layer=$3 result=$4
 [ -f "$tin" ] || refuse "$tin: no file"
 case $layer in -*) refuse "a layer whose name begins with - cannot be named to ogr2ogr: $layer" ;; esac
@@ -19,8 +23,8 @@ trap 'exit 130' INT
 trap 'exit 143' TERM
 # Both get the same frame without a name, since SpatiaLite compares no geometries of different ones.
 plane='LOCAL_CS["plane",UNIT["metre",1]]'
-jq -c '
-    (.vertices_columns | index("source_x")) as $x | (.vertices_columns | index("source_y")) as $y
+jq -c --arg frame "$frame" '
+    (.vertices_columns | index($frame + "_x")) as $x | (.vertices_columns | index($frame + "_y")) as $y
     | (.triangles_columns | [index("idx_vertex1", "idx_vertex2", "idx_vertex3")]) as $columns
     | .vertices as $vertices
     | { type: "FeatureCollection", features: [ .triangles[] as $row

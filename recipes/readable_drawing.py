@@ -3,13 +3,14 @@
 
 usage: readable_drawing.py [--explode SIZE] DRAWING.dxf READABLE.dxf [TOLERANCE]
 
-Arcs, circles, ellipses, splines and the bulges of polylines become straight pieces that are at
-most TOLERANCE, 0.001 m if left out, from them. Hatches, solids and faces become their outlines,
-MTEXT becomes one TEXT a line, attributes of inserts become texts, and dimensions, leaders and the
-like their parts. Lines without an end (XLINE, RAY) become LINEs as far as the drawing reaches. What
-is in another plane (extrusion) is put where it is. Paths in space become a LINE for each segment,
-with its heights, and a mark by which joined_drawing.py makes polylines of them again after they were
-carried; it puts constant widths back too, which are 0 here.
+Arcs, circles, ellipses, splines and the bulges of polylines become straight pieces that are at most
+TOLERANCE, 0.001 m if left out, from them. Of bulges, and of arcs of hatches, they may be up to
+0.0003 of the radius farther, since ezdxf makes Bezier curves of these first. Hatches, solids and
+faces become their outlines, MTEXT becomes one TEXT a line, attributes of inserts become texts, and
+dimensions, leaders and the like their parts. Lines without an end (XLINE, RAY) become LINEs as far
+as the drawing reaches. What is in another plane (extrusion) is put where it is. Paths in space
+become a LINE for each segment, with its heights, and a mark by which joined_drawing.py makes
+polylines of them again after they were carried; it puts constant widths back too, which are 0 here.
 
 With --explode the inserts whose block reaches more than SIZE metres from their place, or has several
 columns or rows, are resolved into what is in the block, since tinmove moves the place of an insert

@@ -8,13 +8,16 @@ a boundary point becomes a vertex of its parcel. FILEs are layers of neighbours:
 and they are not written. No vertex moves. A vertex that is at most MM millimetres (1) from a segment of
 another geometry or of its own, and farther than that from its ends, is put into the segment; where both
 ends have heights it gets the height between them. The layers are written into FOLDER under their names,
-once all have been read. Needs nothing but Python.
+once all have been read. Needs nothing but Python, and inserted_vertices.py beside it.
 """
 import argparse
 import json
 import math
 import os
 import sys
+
+sys.dont_write_bytecode = True
+from inserted_vertices import Refused, write_whole
 
 # The side of a cell in metres: in each are the vertices of some parcels.
 CELL = 50.0
@@ -55,8 +58,8 @@ def load(name):
 
 def geometries_of(layer):
     if layer["type"] == "FeatureCollection":
-        return [it["geometry"] for it in layer["features"] if it["geometry"]]
-    geometry = layer["geometry"] if layer["type"] == "Feature" else layer
+        return [it["geometry"] for it in layer["features"] if it.get("geometry")]
+    geometry = layer.get("geometry") if layer["type"] == "Feature" else layer
     return [geometry] if geometry else []
 
 
@@ -109,11 +112,9 @@ def share(places, cells, tolerance):
     return result
 
 
-def write(path, layer):
-    """The file is there whole or as it was."""
-    with open(path + ".part", "w", encoding="utf-8") as file:
-        json.dump(layer, file, ensure_ascii=False)
-    os.replace(path + ".part", path)
+def text_of(layer):
+    """The text of a layer. Half of a pair of UTF-16 alone, which UTF-8 cannot spell, is an escape as in JSON."""
+    return json.dumps(layer, ensure_ascii=False).encode(errors="backslashreplace").decode()
 
 
 def main():
@@ -136,9 +137,14 @@ def main():
                     count = len(places)
                     places[:] = share(places, cells, words.tolerance / 1000)
                     put += len(places) - count
-    os.makedirs(words.folder, exist_ok=True)
-    for name, layer in zip(names, layers):
-        write(os.path.join(words.folder, name), layer)
+    try:
+        os.makedirs(words.folder, exist_ok=True)
+        for name, layer in zip(names, layers):
+            write_whole(os.path.join(words.folder, name), text_of(layer))
+    except OSError as error:
+        sys.exit(f"{words.folder}: {error.strerror}")
+    except Refused as refusal:
+        sys.exit(str(refusal))
     print(f"{put} vertices put into segments")
 
 

@@ -14,18 +14,18 @@ import sys
 import tempfile
 
 TOP = os.path.dirname(os.path.dirname(os.path.abspath(__file__)))
-CHAPTERS = ("Commands", "Changes on the map", "Decisions", "Recipes")
+CHAPTERS = ("Commands", "Certificates", "Decisions", "Recipes")
 MARK = "@@@ the command ends"
 
 
 def commands_of(name):
-    """The commands, each with its line and what it is to print."""
+    """The commands, each with its line, what it is to print and its chapter."""
     found, is_open, chapter = [], False, None
     with open(name, encoding="utf-8") as file:
         for number, line in enumerate(file, 1):
             chapter = line[3:].strip() if line.startswith("## ") else chapter
             if line.startswith("    $ ") and chapter in CHAPTERS:
-                found.append([number, line[6:].rstrip("\n"), []])
+                found.append([number, line[6:].rstrip("\n"), [], chapter])
                 is_open = True
             elif is_open and line.startswith("    "):
                 found[-1][2].append(line[4:].rstrip("\n"))
@@ -39,6 +39,9 @@ def main():
     programs = {it: os.path.join(TOP, it) for it in names}
     programs.update(zip(names, map(os.path.abspath, sys.argv[1:])))
     commands, bad = commands_of(os.path.join(TOP, "docs", "guide.md")), 0
+    for chapter in CHAPTERS:
+        if all(it[3] != chapter for it in commands):
+            sys.exit(f"docs/guide.md has no command in a chapter {chapter!r}")
     with tempfile.TemporaryDirectory() as folder:
         os.makedirs(os.path.join(folder, "bin"))
         for name, program in programs.items():
@@ -47,7 +50,7 @@ def main():
         os.makedirs(checkout)
         for name in ("examples", "recipes"):
             os.symlink(os.path.join(TOP, name), os.path.join(checkout, name))
-        text = "".join(f"{command}\nprintf '%s\\n' '{MARK}'\n" for _, command, _ in commands)
+        text = "".join(f"{command}\nprintf '%s\\n' '{MARK}'\n" for _, command, *_ in commands)
         path = os.path.join(folder, "bin") + os.pathsep + os.environ["PATH"]
         settings = {it: value for it, value in os.environ.items() if it not in ("TINMOVE", "TINPLACES", "TINLEDGER")}
         done = subprocess.run(
@@ -55,7 +58,7 @@ def main():
             stderr=subprocess.STDOUT, stdin=subprocess.DEVNULL, check=False,
         )
     printed = done.stdout.decode(errors="replace").split(MARK + "\n")
-    for (number, command, wanted), said in zip(commands, printed):
+    for (number, command, wanted, _), said in zip(commands, printed):
         if said.splitlines() != wanted:
             bad += 1
             print(f"docs/guide.md:{number}: $ {command}\nprints\n{said}in place of")

@@ -3,7 +3,8 @@
 All layers go in one run, so that they are compared with each other. The result is a GeoPackage with
 a layer for each, under its name, with its attributes and heights, and with the points of the changes,
 tinmove_changes: the relation before and after, and the layer and feature id on both sides. Curves and
-measures are refused: the algorithms 'Segmentize' and 'Drop M/Z values' come before.
+measures are refused: the algorithms 'Segmentize' and 'Drop M/Z values' come before. A carried layer
+that is named tinmove_changes itself is tinmove_changes_2 in the result.
 
 To use it: Processing toolbox, Scripts, Add Script to Toolbox. The programs tinmove and tinplaces must
 be on the PATH, or in the folder that is named.
@@ -123,7 +124,8 @@ class CarryLayers(QgsProcessingAlgorithm):
 
     def prepareAlgorithm(self, parameters, context, feedback):
         layers = self.parameterAsLayerList(parameters, "LAYERS", context)
-        only_selected, used = self.parameterAsBool(parameters, "SELECTED", context), set()
+        # The layer of the changes has this name.
+        only_selected, used = self.parameterAsBool(parameters, "SELECTED", context), {f"{CHANGES}.wkt"}
         self.sources = [Source(it, only_selected, used) for it in layers]
         if not self.sources:
             raise QgsProcessingException("no layer is chosen")

@@ -19,7 +19,7 @@ pub use features::{put_end, put_feature, put_opening, put_ring_entry};
 pub use geometries::{put_point, put_position};
 pub use laws::{places_are_json, places_are_known};
 pub use lengths::{most_bytes, most_ring_bytes};
-pub use limits::MOST_NAMED;
+pub use limits::{MOST_NAMED, limits_are_stated};
 pub use path_starts::path_places;
 pub use premises::{change_fits, changes_are_json};
 pub use spots::{ChangeSpot, PathSpot, RingSpot, SideSpot, Style};

@@ -60,6 +60,9 @@ fn text_length(page: &Page, before: &[Pair], edit: Edit, longest: u64) -> u64 {
         What::X { .. } | What::Y { .. } => longest,
         What::Vertices { point } => {
             let crossings = crossings_of(page.images, point).len() as u64;
+            if crossings == 0 {
+                return 0;
+            }
             fields_length(before, longest).saturating_mul(crossings)
         }
         What::Lines { path } => {

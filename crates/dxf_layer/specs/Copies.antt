@@ -47,8 +47,7 @@ WrittenIsADrawing =
     → (pairs : List Pair) × (drawing (splice_of bytes (drawing_text bytes sheet images) sheet.edits) ≡ Ok pairs)
 
 -- ---- what a copy is
--- the entity of the drawing with these pairs: its pair of code 0, with others after it, and the pairs up to the next
--- code 0
+-- an entity among these pairs: a pair with others after it, and of those the ones before the next code 0
 pub record IsEntityOf (pairs : List Pair) (entity : Entity) : Type 0 where
   pub front : List Pair
   pub next : Pair
@@ -249,7 +248,7 @@ pub record WritesNext (read : Reading) (edit : Edit) : Type 0 where
   pub text : text_of read edit
       ≡ (if next_behind read == first_handle read then value_in read.bytes pair else digits 16 true (next_behind read))
 
--- nothing in the place of an entity of the drawing, whose kind is not one of those that are read
+-- nothing in the place of an entity that is not read by itself
 pub record LeavesOut (read : Reading) (how : How) (edit : Edit) : Type 0 where
   pub entity : Entity
   pub front : List Pair

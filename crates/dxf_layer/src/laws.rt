@@ -58,7 +58,7 @@ pub fn copies_are_of_entities()
 ///    the x or the y of the point's image, as metres.
 /// 4. In the place of the value of the field 90 of a polyline it writes how many images its vertices have.
 /// 5. In the place of the next handle it writes the one after all that were given, or the same where none was given.
-/// 6. In the place of an entity of another kind, where it is asked for, it writes nothing.
+/// 6. In the place of an entity that is not read by itself, where it is asked for, it writes nothing.
 pub fn edits_write_copies()
     ensures { EditsWriteCopies }
 {

@@ -1,5 +1,7 @@
 //! What is true of the definitions that the contracts cite.
 
+ghost use Rattle.std.specs.Prelude.{◌≡◌, ◌^◌};
+ghost use Rattle.fault_runs.specs.declared.loads.TheConstants.{MOST_FAULTS};
 ghost use Rattle.fault_runs.specs.Laws.{FaultsAreJson, OutcomeExists, OutcomeIsOne};
 
 /// A law: a run has one outcome at most.
@@ -25,4 +27,9 @@ pub fn outcome_exists()
 /// numbers fit their fields.
 pub fn faults_are_json()
     ensures { FaultsAreJson }
+{}
+
+/// A law: the most faults of a list that is printed are this many.
+pub fn limits_are_stated()
+    ensures faults { MOST_FAULTS ≡ 2 ^ 20 }
 {}

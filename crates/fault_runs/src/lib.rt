@@ -13,7 +13,7 @@ mod spots;
 mod words;
 
 pub use features::write_faults;
-pub use laws::{faults_are_json, outcome_exists, outcome_is_one};
+pub use laws::{faults_are_json, limits_are_stated, outcome_exists, outcome_is_one};
 pub use loads::MOST_FAULTS;
 pub use refusals::FaultRefusal;
 pub use run_ends::{FaultRunEnd, run_to_end};

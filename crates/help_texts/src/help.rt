@@ -175,7 +175,7 @@ options:
   -h, --help      this text
 
 example:
-  tinmove verify --tin fineltra.json --source roads.wkt --written lv95/roads.wkt
+  tinmove verify --tin fineltra.json --source roads.wkt --written lv95/roads.wkt \\
                  --cert lv95/roads.wkt.cert
 ";
 

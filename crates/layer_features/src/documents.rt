@@ -1,10 +1,10 @@
 //! The features of a layer of GeoJSON.
 
-ghost use Rattle.std.specs.Prelude.{◌≡◌, ◌<◌, ◌^◌, ℕ, List, length, nat_lt, IfOk};
+ghost use Rattle.std.specs.Prelude.{◌≡◌, ◌<◌, ◌^◌, ℕ, List, length, nat_lt, IfOk, IsErrOf};
 ghost use Rattle.std.specs.List.{list_all};
 ghost use Rattle.jtext.specs.Values.{Json};
 ghost use Rattle.jtext.specs.Places.{IsReadFrom, IsDocOf, HasNodesAt, whole_start};
-ghost use Rattle.jtext.specs.Texts.{Whole};
+ghost use Rattle.jtext.specs.Texts.{Whole, IsBad, IsDeep};
 ghost use Rattle.layer_features.specs.Features.{AreInOrder};
 ghost use Rattle.layer_features.specs.JsonFeatures.{asked_for, property_of, name_of};
 ghost use Rattle.layer_features.specs.JsonFeatures.{feature_of, array_features, value_features, AreJsonFeatures};
@@ -140,6 +140,8 @@ pub fn json_features(
     requires { length bytes.now < 2 ^ 32 }
     ensures are { IfOk result (λ features. AreJsonFeatures (asked_for name.entry) bytes.now features) }
     ensures order { IfOk result (λ features. AreInOrder 0 features) }
+    ensures bad { (at : ℕ) → IsErrOf result (JsonFault.Bad at) → IsBad bytes.now at }
+    ensures deep { (at : ℕ) → IsErrOf result (JsonFault.Deep at) → IsDeep bytes.now at }
 {
     let doc = read_json(alloc, bytes)?;
     Ok(Listed::of(features_of(alloc, &doc, bytes, name)?))

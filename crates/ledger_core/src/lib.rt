@@ -19,7 +19,7 @@ pub use commands::{Command, Reply};
 pub use faults::{KeepFault, Stop};
 pub use keepers::Keeper;
 pub use laws::{accepted_alone, clear_is_decided, decisions_stand, entered_once};
-pub use limits::{MOST_COMMANDS, MOST_PAIRS, MOST_RUNS};
+pub use limits::{MOST_COMMANDS, MOST_PAIRS, MOST_RUNS, limits_are_stated};
 pub use mem_keeper::MemKeeper;
 pub use pairs::{Mark, PairRow, Seal, Totals, Verdict};
 pub use replies::{PairList, Replies};

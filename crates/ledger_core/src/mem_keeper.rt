@@ -10,7 +10,7 @@ ghost use Rattle.ledger_core.specs.Kept.{with_decision, verdict_of, undecided_fr
 ghost use Rattle.ledger_core.specs.Kept.{is_open, is_undecided};
 ghost use Rattle.ledger_core.specs.Causes.{HasCause};
 ghost use Rattle.ledger_core.specs.MemoryKeeper.{after_fault, after_call};
-ghost use Rattle.ledger_core.specs.declared.faults.KeepFault.TheVariants.{Failed};
+ghost use Rattle.ledger_core.specs.declared.faults.KeepFault.TheVariants.{Failed, NoMemory};
 
 use crate::mem_runs::MemRuns;
 use crate::{KeepFault, Keeper, Mark, PairRow, Seal, Totals};
@@ -90,40 +90,90 @@ impl Keeper for MemKeeper {
 
     ghost faults = { λ k. k.faults };
 
-    fn find(&mut self, _alloc: Global, seal: &Seal) -> Result<Option<u32>, KeepFault> {
+    fn find(&mut self, _alloc: Global, seal: &Seal) -> Result<Option<u32>, KeepFault>
+        ensures found { IfSome (Some self.old.kept) (λ all. IfOk result (λ run. run ≡ run_of all.runs seal.now)) }
+        ensures same { Stays (Some self.old.kept) (Some self.new.kept) }
+        ensures cause { HasCause self.old.faults self.new.faults result }
+
+        // Exactly the calls whose numbers are listed fail, and each is counted.
+        ensures listed { IsErrOf result Failed ↔ Contains self.old.fail self.old.calls }
+        ensures called { OnOk result (self.new ≡ after_call self.old.kept self.old) }
+        ensures failed { OnErr result (self.new ≡ after_fault self.old) }
+    {
         self.call()?;
         Ok(self.kept.find(seal))
     }
 
-    fn totals(&mut self, _alloc: Global) -> Result<Totals, KeepFault> {
+    fn totals(&mut self, _alloc: Global) -> Result<Totals, KeepFault>
+        ensures runs { IfSome (Some self.old.kept) (λ all. IfOk result (λ totals. totals.runs ≡ length all.runs)) }
+        ensures pairs { IfSome (Some self.old.kept) (λ all. IfOk result (λ totals. totals.pairs ≡ length all.pairs)) }
+        ensures same { Stays (Some self.old.kept) (Some self.new.kept) }
+        ensures cause { HasCause self.old.faults self.new.faults result }
+
+        ensures listed { IsErrOf result Failed ↔ Contains self.old.fail self.old.calls }
+        ensures called { OnOk result (self.new ≡ after_call self.old.kept self.old) }
+        ensures failed { OnErr result (self.new ≡ after_fault self.old) }
+    {
         self.call()?;
         Ok(self.kept.totals())
     }
 
-    fn enter(&mut self, alloc: Global, seal: &Seal, changes: &[Change]) -> Result<(), KeepFault> {
+    fn enter(&mut self, alloc: Global, seal: &Seal, changes: &[Change]) -> Result<(), KeepFault>
+        requires short { length changes.now ≤ MOST_PAIRS }
+        requires new { IfSome (Some self.old.kept) (λ all. run_of all.runs seal.now ≡ None) }
+        requires room { IfSome (Some self.old.kept) (λ all. HasRoom all changes.now) }
+        ensures ok { OnOk result (Becomes (with_new_run seal.now changes.now) (Some self.old.kept) (Some self.new.kept)) }
+        ensures err { OnErr result (Stays (Some self.old.kept) (Some self.new.kept)) }
+        ensures cause { HasCause self.old.faults self.new.faults result }
+
+        ensures listed { IsErrOf result Failed ↔ Contains self.old.fail self.old.calls }
+        ensures called { OnOk result (self.new ≡ after_call (with_new_run seal.now changes.now self.old.kept) self.old) }
+        ensures failed { IsErrOf result Failed → self.new ≡ after_fault self.old }
+        ensures memory { IsErrOf result NoMemory → self.new ≡ after_call self.old.kept self.old }
+    {
         self.call()?;
         self.kept.enter(alloc, seal, changes)?;
         Ok(())
     }
 
-    fn pair(&mut self, _alloc: Global, run: u32, place: u32) -> Result<Option<PairRow>, KeepFault> {
+    fn pair(&mut self, _alloc: Global, run: u32, place: u32) -> Result<Option<PairRow>, KeepFault>
+        ensures found { IfSome (Some self.old.kept) (λ all. IfOk result (λ row. row ≡ pair_at all.pairs run place)) }
+        ensures same { Stays (Some self.old.kept) (Some self.new.kept) }
+        ensures cause { HasCause self.old.faults self.new.faults result }
+
+        ensures listed { IsErrOf result Failed ↔ Contains self.old.fail self.old.calls }
+        ensures called { OnOk result (self.new ≡ after_call self.old.kept self.old) }
+        ensures failed { OnErr result (self.new ≡ after_fault self.old) }
+    {
         self.call()?;
         Ok(self.kept.pair(run, place))
     }
 
-    fn decide(
-        &mut self,
-        _alloc: Global,
-        run: u32,
-        place: u32,
-        mark: Mark,
-    ) -> Result<(), KeepFault> {
+    fn decide(&mut self, _alloc: Global, run: u32, place: u32, mark: Mark) -> Result<(), KeepFault>
+        requires undecided { IfSome (Some self.old.kept) (λ all. verdict_at all.pairs run place ≡ Some Undecided) }
+        ensures ok { OnOk result (Becomes (with_decision run place (verdict_of mark)) (Some self.old.kept) (Some self.new.kept)) }
+        ensures err { OnErr result (Stays (Some self.old.kept) (Some self.new.kept)) }
+        ensures cause { HasCause self.old.faults self.new.faults result }
+
+        ensures listed { IsErrOf result Failed ↔ Contains self.old.fail self.old.calls }
+        ensures called { OnOk result (self.new ≡ after_call (with_decision run place (verdict_of mark) self.old.kept) self.old) }
+        ensures failed { OnErr result (self.new ≡ after_fault self.old) }
+    {
         self.call()?;
         self.kept.decide(run, place, mark.verdict());
         Ok(())
     }
 
-    fn next(&mut self, _alloc: Global, run: u32, from: u32) -> Result<Option<PairRow>, KeepFault> {
+    fn next(&mut self, _alloc: Global, run: u32, from: u32) -> Result<Option<PairRow>, KeepFault>
+        ensures found { IfSome (Some self.old.kept) (λ all. IfOk result (λ row. row ≡ next_open all.pairs run from)) }
+        ensures within { IfOk result (λ found. IfSome found (λ row. (from ≤ row.place) × (row.place < MOST_PAIRS))) }
+        ensures same { Stays (Some self.old.kept) (Some self.new.kept) }
+        ensures cause { HasCause self.old.faults self.new.faults result }
+
+        ensures listed { IsErrOf result Failed ↔ Contains self.old.fail self.old.calls }
+        ensures called { OnOk result (self.new ≡ after_call self.old.kept self.old) }
+        ensures failed { OnErr result (self.new ≡ after_fault self.old) }
+    {
         self.call()?;
         Ok(self.kept.next(run, from))
     }

@@ -25,7 +25,7 @@ form_cure = codes "lines are enter REPORT LAYER..., decide RUN PLACE kept, decid
 
 -- what helps
 abbrev pub cure_words : LineFlaw → List ℕ
-cure_words ByteOrderMark = codes "the mark is removed by: sed -i '1s/^...//'"
+cure_words ByteOrderMark = codes "the mark is removed by: sed -i 's/^\\xef\\xbb\\xbf//'"
 cure_words CarriageReturn = codes "carriage returns are removed by: sed -i 's/\\r$//'"
 cure_words Control = space_cure
 cure_words Space = space_cure

@@ -33,7 +33,7 @@ fn cure(flaw: LineFlaw) -> &'static str
     ensures { result.now ≡ cure_words flaw }
 {
     match flaw {
-        LineFlaw::ByteOrderMark => "the mark is removed by: sed -i '1s/^...//'",
+        LineFlaw::ByteOrderMark => "the mark is removed by: sed -i 's/^\\xef\\xbb\\xbf//'",
         LineFlaw::CarriageReturn => "carriage returns are removed by: sed -i 's/\\r$//'",
         LineFlaw::Control | LineFlaw::Space => "one space is between each two words of a line",
         LineFlaw::Utf8 => "a script is UTF-8",

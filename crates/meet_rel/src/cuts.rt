@@ -17,7 +17,7 @@ use plane_base::{Pt, slice};
 use std::cmp::Ordering;
 use tin_base::Rel;
 
-/// What lies between two parameters of a segment.
+/// What lies between two parameters of a segment, of which `lo` is not after `hi`.
 #[derive(Clone, Copy, Debug)]
 pub struct Span {
     pub lo: Frac,

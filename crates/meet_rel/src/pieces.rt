@@ -3,6 +3,7 @@
 ghost use Rattle.std.specs.Prelude.{◌≡◌, ◌≢◌, ◌↔◌, pos, ◌<ℤ◌, IsTrue};
 ghost use Rattle.plane_base.specs.Plane.{Point, IsNear};
 ghost use Rattle.plane_base.specs.Slices.{IsParam};
+ghost use Rattle.frac128.specs.Fractions.{IsAtMost};
 ghost use Rattle.tin_base.specs.Segments.{Part};
 ghost use Rattle.tin_base.specs.Relations.{HaveRelation, IsBetween};
 ghost use Rattle.tin_base.specs.Pieces.{first_point, last_point, IsPieceOf, IsPieceInside};
@@ -53,6 +54,7 @@ pub fn piece_span(piece: &Piece, tin: &SoundTin) -> Span
     ensures points { (part : Part) → IsPieceOf tin.now piece.now part → (r : Point) → pos 0 <ℤ r.w
         → IsBetween (first_point piece.now part) (last_point piece.now part) r
         ↔ IsBetween (at piece.now.a piece.now.b result.lo) (at piece.now.a piece.now.b result.hi) r }
+    ensures order { IsAtMost result.lo result.hi }
     ensures lo { IsParam result.lo.num result.lo.den }
     ensures hi { IsParam result.hi.num result.hi.den }
     ensures near { IsNear piece.now.a piece.now.b }

@@ -30,7 +30,8 @@ pub struct Stray {
     pub is_in_target: bool,
     /// Whether no coordinate of the layer is more than 360 metres from 0.
     pub is_small: bool,
-    /// Whether the whole layer is in the box of the triangles once the two coordinates of each point are exchanged.
+    /// Whether the whole layer is in the box of the triangles once the two coordinates of each point are exchanged, and
+    /// is not as it stands.
     pub is_exchanged: bool,
 }
 

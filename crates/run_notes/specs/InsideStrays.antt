@@ -65,6 +65,10 @@ layer_frame false = Source
 abbrev pub exchanged_box : Rect → Rect
 exchanged_box box = record { x0 = box.y0; y0 = box.x0; x1 = box.y1; y1 = box.x1 }
 
+-- each point is in the box once its coordinates are exchanged, and not each is as it stands
+abbrev pub AreExchanged : Rect → List Pt → Type 0
+AreExchanged box points = HasEach (exchanged_box box) points × ¬ HasEach box points
+
 -- where the edit of this number begins
 abbrev pub start_of : List Edit → Option ℕ → Option ℕ
 start_of edits None = None
@@ -94,12 +98,12 @@ pub record IsStrayOf (sheet : Contents) (bytes : List ℕ) (path segment : ℕ) 
   pub target_box : IsLeastBox (map (spot_in (other (layer_frame inverse))) tin.corners) target
   pub in_target : IsTrue stray.is_in_target ↔ HasEach target sheet.points
   pub small : stray.is_small ≡ list_all (λ (p : Pt). has_degrees (whole p)) sheet.points
-  pub exchanged : IsTrue stray.is_exchanged ↔ HasEach (exchanged_box (record {
+  pub exchanged : IsTrue stray.is_exchanged ↔ AreExchanged (record {
     x0 = stray.least.x;
     y0 = stray.least.y;
     x1 = stray.greatest.x;
     y1 = stray.greatest.y;
-  })) sheet.points
+  }) sheet.points
 
 -- ---- points with heights
 -- the places of all points of a list are such as degrees are

@@ -80,7 +80,7 @@ pub(crate) fn front_again<R: Files + AllocGlobal>(
     most: usize,
 ) -> Option<Vec<u8>> {
     match fs::metadata(rt, name) {
-        Ok(kind) if kind.is_file() => front_of(rt, name, most),
+        Ok(kind) if kind.is_file() => front_of(rt, name, kind.len().min(most as u64) as usize),
         _ => None,
     }
 }
@@ -118,7 +118,7 @@ fn are_in_degrees(alloc: Global, bytes: &[u8], how: How, use_of_tin: TinUse) -> 
     requires { length bytes.now ≤ MOST_BYTES }
 {
     match tin_in(alloc, bytes, how, use_of_tin) {
-        Some(tin) => are_degrees(&tin),
+        Some(tin) => !tin.corners().is_empty() && are_degrees(&tin),
         None => false,
     }
 }

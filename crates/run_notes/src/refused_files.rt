@@ -351,9 +351,8 @@ fn say_long_layer<R: Files + Eprint + AllocGlobal>(rt: &R, layers: &[Name]) {
 fn say_sizes<R: Files + Eprint + AllocGlobal>(rt: &R, job: &Job) {
     match job {
         Job::Migrate { layers, .. } => say_long_layer(rt, layers.items()),
-        Job::Heights { points, .. } => say_long_layer(rt, slice::from_ref(points)),
         Job::Verify { source, .. } => say_long_layer(rt, slice::from_ref(source)),
-        Job::Check { .. } | Job::Make { .. } => {}
+        Job::Check { .. } | Job::Make { .. } | Job::Heights { .. } => {}
     }
 }
 

@@ -9,7 +9,7 @@ ghost use Rattle.job_words.specs.Formats.{format_by_name};
 ghost use Rattle.runs.specs.declared.loads.TheConstants.{MOST_BYTES};
 ghost use Rattle.run_notes.specs.LayersAgain.{IsLayerIn};
 ghost use Rattle.run_notes.specs.InsideStrays.{end_number, has_degrees, HasEach, is_in_degrees, IsLeastBox, IsStrayOf};
-ghost use Rattle.run_notes.specs.InsideStrays.{exchanged_box, layer_frame, spot_in, are_small_rows, IsStrayPoint};
+ghost use Rattle.run_notes.specs.InsideStrays.{exchanged_box, AreExchanged, layer_frame, spot_in, are_small_rows, IsStrayPoint};
 ghost use Rattle.run_notes.specs.InsideStrays.{start_of, IsSegmentLine};
 
 use job_words::format_of;
@@ -103,6 +103,13 @@ fn are_in(rect: Rect, points: &[Pt]) -> bool
         }
     }
     true
+}
+
+/// Whether all points are in the box once their coordinates are exchanged, and not all of them are as they stand.
+fn are_exchanged(rect: Rect, points: &[Pt]) -> bool
+    ensures { IsTrue result ↔ AreExchanged rect points.now }
+{
+    !are_in(rect, points) && are_in(exchange_box(rect), points)
 }
 
 /// Whether the coordinates of all points are such as degrees are.
@@ -290,7 +297,7 @@ pub(crate) fn stray_of(
         greatest: greatest_of(triangles),
         is_in_target: are_in(target, sheet.points()),
         is_small: are_small(sheet.points()),
-        is_exchanged: are_in(exchange_box(triangles), sheet.points()),
+        is_exchanged: are_exchanged(triangles, sheet.points()),
     })
 }
 

@@ -75,16 +75,20 @@ fn say_output<R: Files + Eprint + AllocGlobal>(
     Ok(())
 }
 
-/// Says the same of each output.
+/// Says the same of each output. A triangulation that has no path, as that of a pipe, meets none.
 fn say_outputs<R: Files + Eprint + AllocGlobal>(
     rt: &R,
     tin: &str,
     outputs: &[String],
 ) -> io::Result<()> {
-    let tin = fs::canonicalize(rt, tin)?;
+    let path = fs::canonicalize(rt, tin);
+    let tin = match &path {
+        Ok(path) => path.as_str(),
+        Err(_) => "",
+    };
     let mut written = Vec::new(rt.alloc());
     for name in outputs {
-        say_output(rt, tin.as_str(), &mut written, name.as_str())?;
+        say_output(rt, tin, &mut written, name.as_str())?;
     }
     Ok(())
 }

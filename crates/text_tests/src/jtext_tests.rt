@@ -1,4 +1,4 @@
-//! Texts whose nodes or first faults were found without this reader (bench/json_places.py).
+//! Texts whose nodes or first faults were found without this reader (rows/json_places.py).
 
 ghost use Rattle.jtext.specs.Lookups.{IsAscii};
 

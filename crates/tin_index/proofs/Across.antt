@@ -16,6 +16,7 @@ use Rattle.tin_base.specs.Limits.{IsWithinLimits}
 use Rattle.tin_base.proofs.SegmentSpots.Spots.{one}
 use Rattle.tin_base.proofs.FrameImages.Weights.{HasAll}
 use Rattle.tin_index.specs.Sides.{HasCorner, corner_of, next_of, IsAcross, IsStar}
+use Rattle.tin_index.specs.InsideSides.{IsOtherWith}
 use Rattle.tin_index.proofs.Corners.{Numbered, numbered, read_differ, own}
 use Rattle.plane_base.proofs.TriangleLaws.LeftOfSide.{overlap_at_side}
 use Rattle.tin_base.proofs.PieceChains.Overlap.{in_more}
@@ -160,14 +161,31 @@ one_across tin t k u v limits sound ht hk in_u in_v = ⊎_elim (λ e. e) two (ca
         (read_differ tin t k (next_of k) limits sound ht hk next.0 next.1) (own tin t k limits sound ht hk)
         (own tin t (next_of k) limits sound ht next.0) in_u.first in_u.second in_v.first in_v.second)
 
--- a triangle of the first corner's that has the second
-pub found_across : (tin : Triangulation) (t k i c d : ℕ) (star : List ℕ) → c ≡ corner_of tin t k
-    → d ≡ corner_of tin t (next_of k) → IsStar tin c star → i < length star
-    → (get_or star i 0 ≢ t) × HasCorner tin (get_or star i 0) d → IsAcross tin t k (get_or star i 0)
-found_across tin t k i c d star e f s h other = grind (arith, get_or, Contains-get_or)
+-- a triangle of a corner's star that has the second one
+pub found_with : (tin : Triangulation) (t c d i : ℕ) (star : List ℕ) → IsStar tin c star → i < length star
+    → (get_or star i 0 ≢ t) × HasCorner tin (get_or star i 0) d → IsOtherWith tin t c d (get_or star i 0)
+found_with tin t c d i star s h other = grind (arith, get_or, Contains-get_or)
 
-pub none_across : (tin : Triangulation) (t k c d : ℕ) (star : List ℕ) → c ≡ corner_of tin t k
-    → d ≡ corner_of tin t (next_of k) → IsStar tin c star
+pub none_with : (tin : Triangulation) (t c d : ℕ) (star : List ℕ) → IsStar tin c star
     → ((i : ℕ) → i < length star → (get_or star i 0 ≢ t) × HasCorner tin (get_or star i 0) d → ⊥) → (u : ℕ)
-    → IsAcross tin t k u → ⊥
-none_across tin t k c d star e f s none u across = grind (arith, get_or, get_or_default_zero)
+    → IsOtherWith tin t c d u → ⊥
+none_with tin t c d star s none u other = grind (arith, get_or, get_or_default_zero)
+
+-- what has both corners of a side is across it, whichever of the two is named first
+pub across_of : (tin : Triangulation) (t k c d u : ℕ) → c ≡ corner_of tin t k → d ≡ corner_of tin t (next_of k)
+    → IsOtherWith tin t c d u → IsAcross tin t k u
+across_of tin t k c d u e f o = record {
+  in_range = o.in_range;
+  differs = o.differs;
+  first = subst (λ (x : ℕ). HasCorner tin u x) e o.first;
+  second = subst (λ (x : ℕ). HasCorner tin u x) f o.second;
+}
+
+pub across_turned : (tin : Triangulation) (t k c d u : ℕ) → c ≡ corner_of tin t k → d ≡ corner_of tin t (next_of k)
+    → IsOtherWith tin t d c u → IsAcross tin t k u
+across_turned tin t k c d u e f o = across_of tin t k c d u e f (record {
+  in_range = o.in_range;
+  differs = o.differs;
+  first = o.second;
+  second = o.first;
+})

@@ -11,3 +11,4 @@ pub mod Sides
 pub mod Stars
 pub mod IndexFields
 pub mod InsideLocations
+pub mod InsideSides

@@ -7,6 +7,7 @@ ghost use Rattle.tin_base.specs.Triangulation.{IsInTriangle};
 ghost use Rattle.tin_base.specs.Images.{IsInSome};
 ghost use Rattle.tin_index.specs.Boxes.{AreBoxesOf, IsNearCorners};
 ghost use Rattle.tin_index.specs.Sides.{HasCorner, corner_of, next_of, IsAcross, IsStar};
+ghost use Rattle.tin_index.specs.InsideSides.{IsOtherWith};
 
 use crate::boxes::{box_of_all, boxes_of};
 use crate::locations::{is_inside, locate_in};
@@ -109,8 +110,8 @@ impl TinIndex {
         self.locate(p)
     }
 
-    /// Whether the point is in the box of all corners. Only there can a triangle contain it, and there it is near each
-    /// corner.
+    /// True for each point that a triangle contains, and only for points near each corner. For any other point near
+    /// them it may be either.
     pub fn is_among_corners(&self, p: Pt) -> bool
         ensures has { IsInSome self.now Source (whole p) → IsTrue result }
         ensures near { IsTrue result → IsNearCorners self.now p }
@@ -128,7 +129,8 @@ impl TinIndex {
     }
 
     /// The number of the other triangle that has both corners of the triangle's side `side`, which goes from the corner
-    /// of that number, 0 to 2, to the next. `None` comes exactly where there is no other.
+    /// of that number, 0 to 2, to the next. `None` comes exactly where there is no other. Of the two corners the one
+    /// with fewer triangles is asked.
     pub fn across(&self, triangle: u32, side: u8) -> Option<u32>
         requires triangle { triangle < length self.now.triangles }
         requires side { side < 3 }
@@ -137,8 +139,22 @@ impl TinIndex {
         ensures none { IfNone result ((u : ℕ) → IsAcross self.now triangle side u → ⊥) }
     {
         self.tin.show_soundness();
+        let first = self.corner_of(triangle, side);
         let second = self.corner_of(triangle, next_of(side));
-        let star = self.around(self.corner_of(triangle, side));
+        if self.around(second).len() < self.around(first).len() {
+            self.other_with(triangle, second, first)
+        } else {
+            self.other_with(triangle, first, second)
+        }
+    }
+
+    /// The first other triangle of those round a corner that has this second corner, too.
+    fn other_with(&self, triangle: u32, corner: u32, second: u32) -> Option<u32>
+        requires { corner < length self.now.corners }
+        ensures found { IfSome result (λ other. IsOtherWith self.now triangle corner second other) }
+        ensures none { IfNone result ((other : ℕ) → IsOtherWith self.now triangle corner second other → ⊥) }
+    {
+        let star = self.around(corner);
         for place in 0..star.len() {
             let other = star[place];
             if self.is_across(triangle, second, other) {

@@ -86,7 +86,7 @@ fn is_part(part: Option<Stretch>, row: Row) -> bool {
     }
 }
 
-// What the tables say was found in rational numbers, by bench/plane_rows.py.
+// What the tables say was found in rational numbers, by rows/plane_rows.py.
 const HALF: [i64; 6] = [0, 0, 10, 0, 0, 10];
 
 const HALF_ON: [i64; 6] = [10, 0, 0, 10, 0, 0];

@@ -33,10 +33,10 @@ options:
 exit status:
   0   every line was obeyed
   2   the words are not understood
-  3   a line of the script has no form
-  4   a report is none, or has another number of layers than its line
+  3   a line of the script is none of those above
+  4   what a line names as its report is none, or has another number of layers
   6   a file could not be read
-  7   the replies could not be written
+  7   standard output could not be written
   8   memory ran out
   9   a limit is passed
   10  the database failed

@@ -9,7 +9,7 @@ mod notes;
 use help::{LedgerHelp, USAGE, help_of};
 use ledger_core::KeepFault;
 use ledger_runs::{LedgerStatus, run_to_end, script_of};
-use notes::say_end;
+use notes::{say_end, say_unwritten};
 use shelf_io::{FilePress, FileShelf};
 use shown_text::put_shown;
 use sql_keeper::SqlKeeper;
@@ -104,7 +104,10 @@ fn run_on_files(rt: &HostRuntime, words: &[String]) -> LedgerStatus {
 fn print_help(rt: &HostRuntime, help: LedgerHelp) -> LedgerStatus {
     match rt.print(help.text()) {
         Ok(()) => LedgerStatus::Done,
-        Err(_) => LedgerStatus::Write,
+        Err(_) => {
+            say_unwritten(rt);
+            LedgerStatus::Write
+        }
     }
 }
 

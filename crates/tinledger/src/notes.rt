@@ -173,10 +173,15 @@ fn say_refusal(rt: &HostRuntime, script: &str, refusal: LedgerRefusal) {
     }
 }
 
+/// Says that standard output could not be written. A failure of this changes nothing.
+pub(crate) fn say_unwritten(rt: &HostRuntime) {
+    let _ = rt.eprint("tinledger: standard output: could not be written\n");
+}
+
 /// Says of the end of a run what helps. A failure of this changes nothing.
 pub(crate) fn say_end(rt: &HostRuntime, script: &str, end: LedgerEnd) {
     if end.status == LedgerStatus::Write {
-        let _ = rt.eprint("tinledger: standard output: could not be written\n");
+        say_unwritten(rt);
     }
     match end.refusal {
         Some(refusal) => say_refusal(rt, script, refusal),

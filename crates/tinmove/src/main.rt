@@ -151,7 +151,10 @@ fn run_on_files(rt: &HostRuntime, words: &Words) -> Status {
 fn print_help(rt: &HostRuntime, help: Help) -> Status {
     match rt.print(help.text()) {
         Ok(()) => Status::Same,
-        Err(_) => Status::Write,
+        Err(_) => {
+            say_unwritten(rt, "-");
+            Status::Write
+        }
     }
 }
 

@@ -63,7 +63,7 @@ LAYER ends in .wkt, .geojson, .json or .dxf. Several may have the same file name
 different folders.
 
 exit status:
-  0  nothing changed, and the text has no feature
+  0  the text has no feature
   1  the text has at least one feature
   2  the words are not understood
   3  the triangulation is refused

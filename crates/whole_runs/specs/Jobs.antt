@@ -1,7 +1,7 @@
 -- What the words of the command line ask for.
 use Rattle.std.specs.Prelude.{◌⊎◌, ℕ, Bool, List}
 use Rattle.sheet_base.specs.declared.flags.How.{How}
-use Rattle.job_words.specs.declared.jobs.Job.TheVariants.{Migrate, Check, Make, Verify, Heights as MoveHeights}
+use Rattle.job_words.specs.declared.jobs.Job.TheVariants.{Migrate, Make}
 use Rattle.job_words.specs.declared.faults.WordsFault.{WordsFault}
 use Rattle.job_words.specs.Jobs.{IsJobOf, IsWordsFault}
 use Rattle.migrate_mode.specs.declared.migrations.Migration.{Migration}
@@ -22,24 +22,10 @@ verification_with tin source written cert how inverse =
 abbrev pub heights_with : List ℕ → List ℕ → How → List ℕ → HeightJob
 heights_with tin out how points = record { tin = tin; out = out; how = how; points = points }
 
--- the words ask for this list to be moved
-abbrev pub AsksHeights : List (List ℕ) → HeightJob → Type 0
-AsksHeights words heights = IsJobOf words (MoveHeights heights.tin heights.out heights.how heights.points)
-
--- the words ask for this verification
-abbrev pub AsksVerification : List (List ℕ) → Verification → Type 0
-AsksVerification words verification =
-    IsJobOf words (Verify verification.tin verification.source verification.written verification.cert verification.how
-    verification.inverse)
-
 -- the words ask for this migration
 abbrev pub AsksMigration : List (List ℕ) → Migration → Type 0
 AsksMigration words migration = IsJobOf words
     (Migrate migration.tin migration.out migration.how migration.inverse migration.cert migration.sides migration.layers)
-
--- the words ask for a check of this name
-abbrev pub AsksCheck : List (List ℕ) → List ℕ → Type 0
-AsksCheck words name = (how : How) × IsJobOf words (Check name how)
 
 -- the words ask for what is made of n by n cells
 abbrev pub AsksMaking : List (List ℕ) → ℕ → Type 0

@@ -25,6 +25,16 @@ import programs
 
 # A file, where its features start in it, and the layer and the features of the commune that these are.
 Part = collections.namedtuple("Part", "file starts layer features")
+# Kinds of geometries by their numbers in well-known binary.
+CURVES = {
+    8: "CIRCULARSTRING",
+    9: "COMPOUNDCURVE",
+    10: "CURVEPOLYGON",
+    11: "MULTICURVE",
+    12: "MULTISURFACE",
+    13: "CURVE",
+    14: "SURFACE",
+}
 # A layer of a GeoPackage, and the name of the GeoJSON that is made of it.
 Table = collections.namedtuple("Table", "package table layer")
 
@@ -51,10 +61,31 @@ def copy_layers(source, folder, names):
 
 
 def tables_of(path):
-    """The names of the layers of a GeoPackage that have geometries."""
+    """The layers of a GeoPackage that have geometries, and of each a kind of curve that it has, or None."""
     with sqlite3.connect("file:" + urllib.parse.quote(os.fsencode(path)) + "?mode=ro&immutable=1", uri=True) as base:
-        rows = base.execute("SELECT table_name FROM gpkg_contents WHERE data_type = 'features' ORDER BY table_name")
-        return [it[0] for it in rows]
+        rows = base.execute(
+            "SELECT table_name, column_name FROM gpkg_contents LEFT JOIN gpkg_geometry_columns USING (table_name)"
+            " WHERE data_type = 'features' ORDER BY table_name"
+        )
+        return [(table, column and curve_of(base, table, column)) for table, column in rows.fetchall()]
+
+
+def curve_of(base, table, column):
+    """The kind of the first curve of a layer, of which ogr2ogr would make steps of 4 degrees, or None."""
+    table, column = ('"' + it.replace('"', '""') + '"' for it in (table, column))
+    # What is not read here, as a view with functions of GDAL, ogr2ogr reads or refuses.
+    with contextlib.suppress(sqlite3.OperationalError):
+        # Before the kind are a head of up to 72 bytes, and a byte that says the order of the others.
+        blobs = f"{table} WHERE typeof({column}) = 'blob' AND length({column}) > 12"
+        for (head,) in base.execute(f"SELECT substr({column}, 1, 77) FROM {blobs}"):
+            if head[:2] != b"GP":
+                continue
+            at = 8 + (0, 32, 48, 48, 64, 0, 0, 0)[head[3] >> 1 & 7]
+            kind = int.from_bytes(head[at + 1 : at + 5], "little" if head[at : at + 1] == b"\x01" else "big")
+            # With heights or measures it is greater by thousands.
+            if kind % 1000 in CURVES:
+                return CURVES[kind % 1000]
+    return None
 
 
 def convert(original, folder, name):
@@ -70,7 +101,10 @@ def convert(original, folder, name):
     except sqlite3.Error as error:
         raise Refusal("conversion", 0, f"{name}: {error}") from error
     made = []
-    for table in tables:
+    for table, curve in tables:
+        if curve:
+            line = f"{name}: layer {table}: {curve}: make straight pieces by ogr2ogr -nlt CONVERT_TO_LINEAR"
+            raise Refusal("layer", 4, programs.shown(line))
         new = f"{name[:-5]}.{table}.geojson".replace("/", "%2F").replace("\0", "")
         if table.startswith("-") or os.path.exists(os.path.join(folder, new)):
             raise Refusal("conversion", 0, f"{name}: the layer {table} needs another name")

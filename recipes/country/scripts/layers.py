@@ -3,7 +3,10 @@
 The geometry is what tinmove reads of the layer, in the same millimetres: the text itself of GeoJSON,
 and numbers rounded to the millimetre, halves upwards, of well-known text and of drawings.
 """
+import array
 import decimal
+import functools
+import itertools
 import json
 import math
 import re
@@ -208,6 +211,8 @@ def drawing_features(data):
     at, count = 0, len(lines) // 2 * 2
     while at < count:
         code, value = int(lines[at]), lines[at + 1].strip()
+        if code == 0 and value == "EOF":
+            return  # tinmove reads nothing behind it
         end = at + 2
         while end < count and int(lines[end]) != 0:
             end += 2
@@ -216,7 +221,7 @@ def drawing_features(data):
         elif code == 0 and value == "POLYLINE" and section == "ENTITIES":
             while lines[end + 1].strip() == "VERTEX":
                 end = next(k for k in range(end + 2, count, 2) if int(lines[k]) == 0)
-        if section == "ENTITIES" and code == 0 and value not in ("SECTION", "ENDSEC", "SEQEND", "EOF"):
+        if section == "ENTITIES" and code == 0 and value not in ("SECTION", "ENDSEC", "SEQEND"):
             yield from entity_of(value, lines, at, end)
         at = end
 
@@ -257,6 +262,12 @@ def drawn(kind, fields, first):
     return None
 
 
+@functools.lru_cache(maxsize=2)
+def line_ends(data):
+    """Where each line ends. Kept, since feature_as_bytes asks for each feature of a drawing."""
+    return array.array("Q", itertools.chain((it.start() for it in re.finditer(b"\n", data)), [len(data)]))
+
+
 def numbers_as_text(places):
     """A list of positions of numerals as JSON: the numerals as they are."""
     if isinstance(places, str):
@@ -278,7 +289,10 @@ def feature_as_bytes(name, data, start, end):
         (feature,) = wkt_features(data[start:end])
         text = geometry_as_text(feature.geometry)
     elif kind == ".dxf":
-        part = b"0\nSECTION\n2\nENTITIES\n" + b"\n".join(data.split(b"\n")[start:end]) + b"\n"
+        ends = line_ends(data)
+        inside = data[ends[start - 1] + 1 if start else 0 : ends[end - 1]]
+        # The end is that of the last VERTEX of a POLYLINE.
+        part = b"0\nSECTION\n2\nENTITIES\n" + inside + b"\n0\nEOF\n"
         (feature,) = drawing_features(part)
         text = geometry_as_text(feature.geometry)
     else:

@@ -81,6 +81,8 @@ def main():
     with tempfile.TemporaryDirectory() as room:
         sizes = [os.path.getsize(report) for _, report, _ in entries]
         answers = [it for text in scripts_of(lines_of(entries, room), sizes) for it in run(plan, text, room)]
+    if "full" in answers:
+        sys.exit("tinledger: ledger.sqlite is full: rename it, and another one is begun")
     rows = [[answer.split(" ")[1] if " " in answer else answer, name] for answer, (name, *_) in zip(answers, entries)]
     files.write_whole("ledger.csv", summary.table_of(["run", "commune or border"], rows))
 

@@ -6,6 +6,7 @@ not of this plan is removed first, and so are the results of communes that are n
 import fcntl
 import glob
 import os
+import re
 import shutil
 import subprocess
 
@@ -57,6 +58,8 @@ def settings_of(config):
     plan = {"options": options, "name": str(config["name"]), "epsg": str(config["epsg"])}
     if not plan["epsg"].isdigit():
         raise PlanFault("the configuration's 'epsg' is the number of the frame of the result, as 2056")
+    if not re.fullmatch("[1-9][0-9]*", str(config["batch"])):
+        raise PlanFault("the configuration's 'batch' is a whole number above 0")
     for name in ("tin", "communes"):
         plan[name] = path_of(config, name)
     plan["tinmove"], plan["tinplaces"] = program_of(config, "tinmove"), program_of(config, "tinplaces")

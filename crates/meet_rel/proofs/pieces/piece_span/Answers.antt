@@ -19,6 +19,9 @@ returns-clause-points c = λ part of r hr.
     (subst (λ (a : Pt). IsCut clip a clip.b span.lo span.hi) i.a c.own_span.ensures.cut) in
     (λ m. cut.back r hr (ends.forth r hr m), λ m. ends.back r hr (cut.forth r hr m))
 
+pub returns-clause-order : goal.returns-clause-order
+returns-clause-order c = let cut = c.own_span.ensures.cut in cut.order
+
 pub returns-clause-near : goal.returns-clause-near
 returns-clause-near c =
     let i = c.clip_of.ensures in subst (λ (b : Pt). IsNear c.args.piece.now.a b) i.b

@@ -5,7 +5,7 @@ use Rattle.plane_base.specs.declared.shapes.Pt.{Pt}
 use Rattle.plane_base.specs.declared.shapes.Rect.{Rect}
 use Rattle.plane_base.specs.Plane.{whole}
 use Rattle.tin_base.specs.declared.frames.Frame.{Frame}
-use Rattle.run_notes.specs.InsideStrays.{IsSegmentLine, HasEach, IsLeastBox, end_number, exchanged_box, has_degrees, layer_frame}
+use Rattle.run_notes.specs.InsideStrays.{AreExchanged, IsSegmentLine, HasEach, IsLeastBox, end_number, has_degrees, layer_frame}
 use Rattle.run_notes.specs.InsideStrays.{spot_in}
 use Rattle.run_notes.proofs.strays.stray_of.Goals as goal
 
@@ -34,9 +34,8 @@ returns c =
       in_target = subst (λ (points : List Pt). IsTrue c.are_in.result ↔ HasEach c.in_ok-target.target points)
           c.points.ensures.points c.are_in.ensures;
       exchanged = rw (c.least_of.ensures, c.greatest_of.ensures) (subst (λ (points : List Pt).
-          IsTrue c.are_in-2.result ↔ HasEach (exchanged_box triangles) points) c.points-3.ensures.points
-          (subst (λ (box : Rect). IsTrue c.are_in-2.result ↔ HasEach box c.points-3.result.now)
-          c.exchange_box.ensures c.are_in-2.ensures));
+          IsTrue c.are_exchanged.result ↔ AreExchanged triangles points) c.points-3.ensures.points
+          c.are_exchanged.ensures);
       small = c.are_small.ensures ∙ ap (λ points. list_all (λ (p : Pt). has_degrees (whole p)) points)
           c.points-2.ensures.points;
     }
