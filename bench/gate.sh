@@ -1,7 +1,9 @@
 #!/bin/sh
-# Runs the gate, and says how much processor time each crate took: its proof, its tests and its
-# must-fail edits.
+# Runs the gate, and says how much processor time each crate took: its proof, the seed of its
+# must-fail edits (the crate proved once more where it has more than one, and asked again after them),
+# the edits themselves, and its tests.
 # usage: bench/gate.sh [WORD..]     what the kit's 'rt ci' takes, if it takes any; its output is handed on
+#        bench/gate.sh --anew       from nothing, whatever this machine has proved: for bench/gate.txt
 # The gate's own output has no times, so its processes are looked at twice a second, by /proc: each
 # run of the prover names its crate, and works in a folder of its own for an edit. What a process
 # takes in its last half second is missing. Needs Linux and python3. The status is the gate's.
@@ -36,7 +38,8 @@ def kind_of(words, folder):
         return None
     name = words[words.index("--crate-name") + 1]
     if "/rt-edit-" in folder:
-        return name, "edits"
+        over = words[words.index("--incremental") + 1] if "--incremental" in words else ""
+        return name, "seed" if over.endswith("/seed") else "edits"
     return name, "tests" if "--test" in words else "proof"
 
 taken = {}  # by process: its crate and kind, and the most time seen
@@ -72,18 +75,17 @@ crates = {}
 for (name, kind), ticks in taken.values():
     crates.setdefault(name, {}).setdefault(kind, 0)
     crates[name][kind] += ticks / TICK / 60
-head, rows = f"{'crate':16}{'proof':>7}{'tests':>7}{'edits':>7}{'whole':>7}", []
-sums = dict.fromkeys(("proof", "tests", "edits"), 0)
+KINDS = "proof", "seed", "edits", "tests"
+head, rows = f"{'crate':20}" + "".join(f"{it:>7}" for it in (*KINDS, "whole")), []
+sums = dict.fromkeys(KINDS, 0)
 for name, by in sorted(crates.items(), key=lambda it: -sum(it[1].values())):
     row = [by.get(kind, 0) for kind in sums]
     for kind, value in zip(sums, row):
         sums[kind] += value
-    rows.append(f"{name:16}" + "".join(f"{value:7.1f}" for value in [*row, sum(row)]))
-rows.append(f"{'all':16}" + "".join(f"{value:7.1f}" for value in [*sums.values(), sum(sums.values())]))
-# three crates a line; checks/graph.py reads the proofs' minutes in gate.txt
-print("\nminutes of processor time\n" + "   ".join([head] * 3))
-for at in range(0, len(rows), 3):
-    print("   ".join(rows[at : at + 3]))
+    rows.append(f"{name:20}" + "".join(f"{value:7.1f}" for value in [*row, sum(row)]))
+rows.append(f"{'all of these':20}" + "".join(f"{value:7.1f}" for value in [*sums.values(), sum(sums.values())]))
+# checks/graph.py reads the proofs' minutes in gate.txt
+print("\nminutes of processor time\n" + "\n".join([head, *rows]))
 print(f"{minutes:.1f} minutes by the clock on {os.cpu_count()} processors; status {gate.returncode}")
 sys.exit(gate.returncode)
 END
