@@ -8,10 +8,10 @@ README lists each crate of crates.txt and no other; each crate has a README; lin
 that are named exist, as `docs/guide.md` or `runs/src/lines.rt`, and scripts that comments of the code name; names in
 the code spans of README and docs/ are somewhere in the sources; prose breaks at 100 columns (wrap_docs.py breaks it),
 except where a script writes it, and ends in no blank or empty line; below cert_check there is no grid, index or walk,
-as its README says; docs/testing.md counts the tests and the must-fail edits. In the README of a crate the names of a
-row's first cell are in the code of that crate, and all that look like a call, a type, a definition or a lemma in the
-code of some crate; of `Status::code` some file has the type with the call; `specs/Values.antt` is a file of the crate,
-and `Values.antt` of some crate. documents.txt has the exceptions.
+as its README says; docs/testing.md counts the tests and the must-fail edits, and its wrong bodies have edits that
+exist. In the README of a crate the names of a row's first cell are in the code of that crate, and all that look like a
+call, a type, a definition or a lemma in the code of some crate; of `Status::code` some file has the type with the call;
+`specs/Values.antt` is a file of the crate, and `Values.antt` of some crate. documents.txt has the exceptions.
 """
 
 import re
@@ -174,6 +174,17 @@ def count_faults(page: Path) -> Iterator[str]:
             yield f"{page}: there are {count} {what}"
 
 
+def edit_faults(page: Path) -> Iterator[str]:
+    """Asks whether each edit in the table of wrong bodies, CRATE/NAME, is there."""
+    _, _, table = page.read_text(encoding="utf-8").partition("\n| Wrong body | Edit |\n")
+    edits = re.findall(r"\b(\w+)/(\w+)\b", table.partition("\n\n")[0])
+    if not edits:
+        yield f"{page}: no table of wrong bodies"
+    for crate, name in edits:
+        if not Path(f"crates/{crate}/must-fail/{name}.edit").exists():
+            yield f"{page}: no edit {crate}/{name}"
+
+
 def main() -> int:
     words = Words(__doc__)
     words.add_argument("--counts", action="store_true", help="write the numbers of tests and edits into docs/testing.md")
@@ -188,7 +199,7 @@ def main() -> int:
     for it in [*sources, Path("docs/guide.md")]:
         names |= set(re.findall(r"[^\W\d]\w*", it.read_text(encoding="utf-8", errors="replace")))
     pages = [Path("README.md"), *sorted(Path("docs").glob("*.md")), *sorted(Path("crates").glob("*/README.md"))]
-    bad = [*lists_faults(), *count_faults(testing), *(row for page in pages for row in page_faults(page, names))]
+    bad = [*lists_faults(), *count_faults(testing), *edit_faults(testing), *(row for page in pages for row in page_faults(page, names))]
     bad += [row for it in sources for row in comment_faults(it)]
     passed = {row for row in bad if re.sub(r":\d+: ", ":", row) in exceptions(__file__)}
     stale = set(exceptions(__file__)) - {re.sub(r":\d+: ", ":", row) for row in passed}
